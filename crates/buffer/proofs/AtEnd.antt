@@ -1,0 +1,53 @@
+-- Laws of a text that stands just before an end: written in pieces, in front of another, and at the start.
+-- Assumes nothing.
+use mathlib.Core.Path.{_≡_, refl, sym, ap, _∙_, subst}
+use mathlib.Core.List.{List, [], _∷_, _++_, append-assoc, append-nil}
+use Prim.Native.Nat.{ℕ, zero, suc, _+_, _-_, _≤_, _<_, zero-le}
+use native.Mathlib.Nat.{sub-zero, sub-self}
+use native.Mathlib.Omega.{arith}
+use lib.ListN.{length, getD, take, drop, set, length-append, length-take, length-drop, take-append-drop}
+use lib.Seq.{take-suc, set-at, sets, sets-eq, length-sets, take-append-le, length-take-le, drop-append-add, take-take, drop-at, take-at}
+use Rattle.buffer.specs.AtEnd.{ended, begun}
+
+-- nothing is left to write
+pub ended-done : (l : List ℕ) (e : ℕ) → ended l e [] ≡ l
+unfolding ended
+ended-done l e = rw sub-zero (take-append-drop e l)
+
+-- the last bytes of a text, v, are stored before e, and what is left of it, t, is to end where v begins
+pub ended-more : (l : List ℕ) (o e : ℕ) (t v : List ℕ) → o + length v ≡ e → length t ≤ o → e ≤ length l → ended (sets l o v) o t ≡ ended l e (t ++ v)
+unfolding ended
+ended-more l o e t v eo h k =
+    let s : sets l o v ≡ take o l ++ (v ++ drop e l) = sets-eq v l o (omega arith) ∙ rw (eo, append-assoc) in
+    let n : length (take o l) ≡ o = length-take-le o l (omega arith) in
+    let d : drop o (take o l ++ (v ++ drop e l)) ≡ v ++ drop e l = drop-at (take o l) (v ++ drop e l) o n in
+    let f : take (o - length t) (take o l ++ (v ++ drop e l)) ≡ take (o - length t) l =
+    take-append-le (o - length t) (take o l) (v ++ drop e l) (omega arith) ∙ take-take (o - length t) o l (omega arith) in
+    let q : e - length (t ++ v) ≡ o - length t = omega (arith, length-append t v) in
+    rw (s, d, f, q, append-assoc)
+
+pub length-ended : (l : List ℕ) (e : ℕ) (t : List ℕ) → length t ≤ e → e ≤ length l → length (ended l e t) ≡ length l
+unfolding ended
+length-ended l e t h k = simp (length-append, length-drop, length-take) (omega arith)
+
+-- one byte more in front of a text that stands at an end: a sign
+pub ended-front : (l : List ℕ) (o e x : ℕ) (t : List ℕ) → o + length (x ∷ t) ≡ e → e ≤ length l → set (ended l e t) o x ≡ ended l e (x ∷ t)
+unfolding ended
+ended-front l o e x t i k =
+    let q : e - length t ≡ suc o = omega arith in
+    let q′ : e - length (x ∷ t) ≡ o = omega arith in
+    let s : take (suc o) l ≡ take o l ++ (getD l o 0 ∷ []) = take-suc l o 0 (omega arith) in
+    rw (q, q′, s, append-assoc) (set-at (take o l) (getD l o 0) (t ++ drop e l) x o (length-take-le o l (omega arith)))
+
+-- a text that ends where its own length is stands at the start
+pub ended-whole : (l t : List ℕ) → ended l (length t) t ≡ begun l t
+unfolding ended begun
+ended-whole l t = rw (sub-self (length t))
+
+-- ---- one text in front of another: a sign or a prefix in front of digits, or fill in front of both
+
+pub ended-sets : (l : List ℕ) (o e : ℕ) (v : List ℕ) → o + length v ≡ e → e ≤ length l → sets l o v ≡ ended l e v
+ended-sets l o e v i k = sym (ended-done (sets l o v) o) ∙ ended-more l o e [] v i zero-le k
+
+pub ended-ended : (l : List ℕ) (e : ℕ) (s t : List ℕ) → length s + length t ≤ e → e ≤ length l → ended (ended l e t) (e - length t) s ≡ ended l e (s ++ t)
+ended-ended l e s t h k = rw (← ended-sets l (e - length t) e t (omega arith) k) (ended-more l (e - length t) e s t (omega arith) (omega arith) k)

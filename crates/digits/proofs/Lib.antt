@@ -1,0 +1,7 @@
+-- Laws that belong to no one function.
+pub mod Digits
+pub mod Last
+pub mod Length
+pub mod Text
+pub mod Tables
+pub mod Examples
