@@ -1,0 +1,51 @@
+-- The greatest decimal length of a type, once over the bits.
+-- Assumes nothing.
+use mathlib.Core.Bool.{true, false}
+use mathlib.Core.Path.{_≡_, refl, ap}
+use Prim.Native.Nat.{ℕ, suc, _-_, _^_, _≤_, _<_}
+use native.Mathlib.Omega.{arith}
+use borrow.Author.Tests.{ltb-true, lt-ltb, ne-eqb}
+use lib.Dec.{lit<}
+use lib.IntN.{ℤ, pos, negsuc}
+use lib.ListN.{length}
+use lib.Pow.{pow-pos}
+use Rattle.digits.specs.Text.{ascii, text, decimal, signed}
+use Rattle.digits.proofs.Text.{text-mono}
+use Rattle.kinds.specs.Kinds.{known, inType, Greatest}
+
+longer : {n m : ℕ} → n ≤ m → length (decimal n) ≤ length (decimal m)
+longer h = text-mono ascii 10 (lit< tt) h
+
+-- unsigned: that of the greatest value
+pub greatest-unsigned : (b : ℕ) → Greatest false b (length (decimal (2 ^ b - 1)))
+unfolding signed
+greatest-unsigned b = record {
+  never = never;
+  longest = pos (2 ^ b - 1);
+  is-value = lt-ltb (2 ^ b - 1) (2 ^ b) (omega (arith, pow-pos b));
+  reached = refl;
+}
+  where
+    never : (z : ℤ) → inType false b z ≡ true → length (signed z) ≤ length (decimal (2 ^ b - 1))
+    never (pos n) t = longer (omega (arith, ltb-true n (2 ^ b) t))
+    never (negsuc k) t = absurd (let z : _≡_ {A = ℕ} 0 1 = cc in omega arith)
+
+-- signed: that of the least value, which has the greatest magnitude and a minus
+pub greatest-signed : (b : ℕ) → Greatest true b (suc (length (decimal (suc (2 ^ (b - 1) - 1)))))
+unfolding signed
+greatest-signed b = record {
+  never = never;
+  longest = negsuc (2 ^ (b - 1) - 1);
+  is-value = lt-ltb (2 ^ (b - 1) - 1) (2 ^ (b - 1)) (omega (arith, pow-pos (b - 1)));
+  reached = refl;
+}
+  where
+    never : (z : ℤ) → inType true b z ≡ true → length (signed z) ≤ suc (length (decimal (suc (2 ^ (b - 1) - 1))))
+    never (pos n) t = omega (arith, longer {n = n} {m = suc (2 ^ (b - 1) - 1)} (omega (arith, ltb-true n (2 ^ (b - 1)) t)))
+    never (negsuc k) t = omega (arith, longer {n = suc k} {m = suc (2 ^ (b - 1) - 1)} (omega (arith, ltb-true k (2 ^ (b - 1)) t)))
+
+-- what is none of the bits of a type
+pub unknown : {X : Type 0} (b : ℕ) → (((Unit {0} × (b ≡ 8 → ⊥)) × (b ≡ 16 → ⊥)) × (b ≡ 32 → ⊥)) × (b ≡ 64 → ⊥) → known b ≡ true → X
+unknown b h t =
+    let f : known b ≡ false = rw (ne-eqb b 8 (h .0 .0 .0 .1), ne-eqb b 16 (h .0 .0 .1), ne-eqb b 32 (h .0 .1), ne-eqb b 64 (h .1)) in
+    absurd (let z : _≡_ {A = ℕ} 0 1 = cc in omega arith)
