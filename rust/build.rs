@@ -1,6 +1,6 @@
 //! Finds liblarguviet.a and links it: in the folder that LARGUVIET_LIB names, else where `rt staticlib` writes it.
 
-use std::{env, path::PathBuf};
+use std::{env, path::PathBuf, process::exit};
 
 fn main() {
     println!("cargo:rerun-if-env-changed=LARGUVIET_LIB");
@@ -11,7 +11,8 @@ fn main() {
     let archive = folder.join("liblarguviet.a");
     println!("cargo:rerun-if-changed={}", archive.display());
     if !archive.is_file() {
-        panic!("{} is not there: `make archive` builds it", archive.display());
+        eprintln!("{} is not there: `make archive` builds it", archive.display());
+        exit(1);
     }
     println!("cargo:rustc-link-search=native={}", folder.display());
     println!("cargo:rustc-link-lib=static=larguviet");
