@@ -20,6 +20,14 @@ LIST_SEED := 1972
 export CARGO_TARGET_DIR := $(CURDIR)/build/cargo
 cargo_run := cargo run --quiet --release --offline
 
+# Under another HOME than the one it was installed in, rustup does not find its toolchains by itself.
+toolchains := $(wildcard $(dir $(shell command -v cargo))../../.rustup)
+ifeq ($(RUSTUP_HOME)$(wildcard $(HOME)/.rustup/toolchains),)
+ifneq ($(toolchains),)
+export RUSTUP_HOME := $(abspath $(toolchains))
+endif
+endif
+
 ifdef LARGUVIET_LIB
 override LARGUVIET_LIB := $(abspath $(LARGUVIET_LIB))
 export LARGUVIET_LIB
