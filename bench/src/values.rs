@@ -35,7 +35,7 @@ pub fn signed() -> Vec<i64> {
     (0..COUNT)
         .map(|_| {
             let magnitude = random.of_length(19, i64::MAX as u64) as i64;
-            if random.next() % 2 == 0 {
+            if random.next() & 1 == 0 {
                 magnitude
             } else {
                 -magnitude
