@@ -1,0 +1,70 @@
+# `make` builds the archive and shows it at work; `make test` is the whole test. Nothing is fetched.
+#
+#   make all       prove what has changed, build the archive, run the example
+#   make test      all proofs from nothing, then the tests outside of them (what .ci/run calls)
+#   make outside   only the tests outside of the proofs; make oracle, make ctest: one of them
+#   make bench     times and instruction counts beside those of the peers
+#   make list      write the stored list of Rust's answers anew
+#   make archive   target/staticlib/liblarguviet.a
+#   make clean     remove all that is made
+#
+# LARGUVIET_LIB=DIR takes the liblarguviet.a in DIR and proves and builds none; `make test` does not heed it.
+
+.PHONY: all check archive example test outside oracle ctest bench list clean
+.NOTPARALLEL:
+.DEFAULT_GOAL := all
+
+LIST_LINES := 2000
+LIST_SEED := 1972
+
+export CARGO_TARGET_DIR := $(CURDIR)/build/cargo
+cargo_run := cargo run --quiet --release --offline
+
+# Under another HOME than the one it was installed in, rustup does not find its toolchains by itself.
+toolchains := $(wildcard $(dir $(shell command -v cargo))../../.rustup)
+ifeq ($(RUSTUP_HOME)$(wildcard $(HOME)/.rustup/toolchains),)
+ifneq ($(toolchains),)
+export RUSTUP_HOME := $(abspath $(toolchains))
+endif
+endif
+
+ifdef LARGUVIET_LIB
+override LARGUVIET_LIB := $(abspath $(LARGUVIET_LIB))
+export LARGUVIET_LIB
+lib := $(LARGUVIET_LIB)
+check archive:
+else
+lib := target/staticlib
+check:
+	rt check
+archive:
+	rt staticlib larguviet
+endif
+
+all: check example
+
+example: archive
+	@mkdir -p build
+	gcc -std=c99 -O2 -Wall -Wextra -pedantic -Iinclude examples/end.c $(lib)/liblarguviet.a -o build/end
+	build/end
+
+test:
+	@tests/run
+
+outside: archive
+	@tests/run rust oracle c
+
+oracle: archive
+	@tests/run oracle
+
+ctest: archive
+	@tests/run c
+
+bench: archive
+	@cd bench && $(cargo_run)
+
+list: archive
+	@cd oracle && $(cargo_run) -- list $(LIST_LINES) $(LIST_SEED) --out ../crates/replay
+
+clean:
+	rm -rf build target

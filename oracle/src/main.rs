@@ -1,0 +1,52 @@
+//! The oracle: holds the archive's entries to the Rust standard library, byte for byte.
+//!
+//!     oracle                          run every part
+//!     oracle list N SEED --out DIR    write N inputs to DIR/stdin and Rust's answers to DIR/stdout
+
+#![feature(int_format_into)]
+
+mod ends;
+mod frame;
+mod list;
+mod report;
+mod values;
+
+use report::Report;
+use std::process::ExitCode;
+
+fn main() -> ExitCode {
+    let words: Vec<String> = std::env::args().skip(1).collect();
+    let words: Vec<&str> = words.iter().map(String::as_str).collect();
+    match words[..] {
+        [] => run(),
+        ["list", count, seed, "--out", folder] => match (count.parse(), seed.parse()) {
+            (Ok(count), Ok(seed)) => write_list(count, seed, folder),
+            _ => usage(),
+        },
+        _ => usage(),
+    }
+}
+
+fn run() -> ExitCode {
+    let mut report = Report::default();
+    ends::run(&mut report);
+    report.close()
+}
+
+fn write_list(count: usize, seed: u64, folder: &str) -> ExitCode {
+    match list::write(count, seed, folder.as_ref()) {
+        Ok(lines) => {
+            println!("oracle list: {lines} lines in {folder}/stdin and {folder}/stdout");
+            ExitCode::SUCCESS
+        }
+        Err(error) => {
+            eprintln!("oracle list: {folder}: {error}");
+            ExitCode::FAILURE
+        }
+    }
+}
+
+fn usage() -> ExitCode {
+    eprintln!("usage: oracle | oracle list N SEED --out DIR");
+    ExitCode::from(2)
+}
