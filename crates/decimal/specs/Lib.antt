@@ -1,0 +1,2 @@
+-- What the end entries promise.
+pub mod Ends

@@ -1,0 +1,123 @@
+// Decimal by digit pairs, right to left, and the end entries.
+// Carries over _fmt_inner and format_into of fmt/num.rs: four digits a turn, then two, then one.
+ghost use mathlib.Core.Path.{_≡_};
+ghost use Prim.Native.Nat.{_+_, _-_, _<_, _≤_};
+ghost use lib.Dec.{leb};
+ghost use lib.ListN.{length};
+ghost use lib.Seq.{sets};
+ghost use Rattle.buffer.specs.AtEnd.{ended};
+ghost use Rattle.digits.specs.Tables.{pairTable};
+ghost use Rattle.digits.specs.Text.{ascii, lastText, decimal, signed};
+ghost use Rattle.decimal.specs.Ends.{EndPromise, endStart, endPart};
+
+// The two digits of k at the index at.
+fn put2(pairs: &[u8; 200], k: usize, buf: &mut [u8], at: usize)
+    requires { ⌜ (now pairs ≡ pairTable) × (k < 100) × (at + 2 ≤ length (now buf)) ⌝ }
+    ensures { λ _. ⌜ now (buf .exit) ≡ sets (now (buf .entry)) at (lastText ascii 10 2 k) ⌝ }
+{
+    buf[at] = pairs[k * 2];
+    buf[at + 1] = pairs[k * 2 + 1];
+}
+
+// The four digits of k at the index at: two pairs.
+fn put4(pairs: &[u8; 200], k: usize, buf: &mut [u8], at: usize)
+    requires { ⌜ (now pairs ≡ pairTable) × (k < 10000) × (at + 4 ≤ length (now buf)) ⌝ }
+    ensures { λ _. ⌜ now (buf .exit) ≡ sets (now (buf .entry)) at (lastText ascii 10 4 k) ⌝ }
+{
+    put2(pairs, k / 100, buf, at);
+    put2(pairs, k % 100, buf, at + 2);
+}
+
+// The decimal text of n just before the index end, with the table of pairs. The answer is where it starts.
+fn fmt_inner(pairs: &[u8; 200], n: u64, buf: &mut [u8], end: usize) -> usize
+    requires { ⌜ (now pairs ≡ pairTable) × (length (decimal n) ≤ end) × (end ≤ length (now buf)) ⌝ }
+    ensures { λ r. ⌜ (r ≡ end - length (decimal n)) × (now (buf .exit) ≡ ended (now (buf .entry)) end (decimal n)) ⌝ }
+{
+    let mut offset = end;
+    let mut remain = n;
+    while 999 < remain {
+        offset -= 4;
+        put4(pairs, (remain % 10000) as usize, buf, offset);
+        remain = remain / 10000;
+    }
+    if 9 < remain {
+        offset -= 2;
+        put2(pairs, (remain % 100) as usize, buf, offset);
+        remain = remain / 100;
+    }
+    if remain != 0 || n == 0 {
+        offset -= 1;
+        buf[offset] = pairs[(remain % 16) as usize * 2 + 1];
+    }
+    offset
+}
+
+// The decimal text of n just before the index end. The answer is where it starts.
+pub fn write_before(n: u64, buf: &mut [u8], end: usize) -> usize
+    requires { ⌜ (length (decimal n) ≤ end) × (end ≤ length (now buf)) ⌝ }
+    ensures { λ r. ⌜ (r ≡ end - length (decimal n)) × (now (buf .exit) ≡ ended (now (buf .entry)) end (decimal n)) ⌝ }
+{
+    fmt_inner(&digits::decimal_pairs(), n, buf, end)
+}
+
+// Whether the decimal text of n is at most room bytes long: one comparison with a power of ten, none where 20 bytes are there.
+fn has_room(n: u64, room: usize) -> bool
+    ensures { λ r. ⌜ r ≡ leb (length (decimal n)) room ⌝ }
+{
+    if 20 <= room {
+        return true;
+    }
+    if room == 0 {
+        return false;
+    }
+    n < digits::power(room)
+}
+
+// The end entry for u64: where the text starts at the end of out, or out's length where it has no room.
+pub fn end_at_u64(value: u64, out: &mut [u8]) -> usize
+    ensures { λ r. ⌜ EndPromise (decimal value) (now (out .entry)) r (now (out .exit)) ⌝ }
+{
+    let end = out.len();
+    if has_room(value, end) {
+        return write_before(value, out, end);
+    }
+    end
+}
+
+// The end entry for i64: a minus in front of the magnitude of a negative.
+pub fn end_at_i64(value: i64, out: &mut [u8]) -> usize
+    ensures { λ r. ⌜ EndPromise (signed value) (now (out .entry)) r (now (out .exit)) ⌝ }
+{
+    let end = out.len();
+    let split = kinds::split_i64(value);
+    if split.negative {
+        if end == 0 {
+            return end;
+        }
+        // The first byte is kept for the minus: what has room behind it has room with it.
+        let at = end_at_u64(split.magnitude, &mut out[1..]);
+        if at == end - 1 {
+            return end;
+        }
+        out[at] = b'-';
+        return at;
+    }
+    end_at_u64(split.magnitude, out)
+}
+
+// The end part of the caller's own buffer that holds the text of a u64; the empty part at the end where it has no room.
+// Of the bytes in front it can promise nothing, since the part takes the place of out: end_at_u64 does.
+pub fn end_u64<'a>(value: u64, out: &'a mut [u8]) -> &'a mut [u8]
+    ensures { λ r. ⌜ (now r ≡ endPart (length (now (out .entry))) (decimal value)) × (r .ptr .0 ≡ out .entry .ptr .0) × (r .ptr .1 ≡ endStart (length (now (out .entry))) (decimal value) + out .entry .ptr .1) ⌝ }
+{
+    let at = end_at_u64(value, out);
+    &mut out[at..]
+}
+
+// As end_u64, for an i64.
+pub fn end_i64<'a>(value: i64, out: &'a mut [u8]) -> &'a mut [u8]
+    ensures { λ r. ⌜ (now r ≡ endPart (length (now (out .entry))) (signed value)) × (r .ptr .0 ≡ out .entry .ptr .0) × (r .ptr .1 ≡ endStart (length (now (out .entry))) (signed value) + out .entry .ptr .1) ⌝ }
+{
+    let at = end_at_i64(value, out);
+    &mut out[at..]
+}
