@@ -2,4 +2,7 @@
 pub mod Tens
 pub mod Round
 pub mod Fixed
+pub mod Short
+pub mod Text
+pub mod Demand
 pub mod Examples
