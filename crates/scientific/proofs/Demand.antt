@@ -1,27 +1,31 @@
 -- Mission demand 3 holds of the exponent text, for every magnitude whose exponent has at most two digits; and what is asked without precision.
 -- Assumes nothing.
-use mathlib.Core.Bool.{Bool, true, false, false≢true}
+use mathlib.Core.Bool.{false}
 use mathlib.Core.List.{List, [], _∷_, _++_}
 use mathlib.Core.Option.{none, some}
 use mathlib.Core.Path.{_≡_, refl, sym, ap, _∙_, subst}
-use Prim.Native.Nat.{ℕ, zero, suc, _+_, _-_, _*_, _/_, _%_, _^_, _≤_, _<_}
-use native.Mathlib.Nat.{le-div-iff-mul-le}
+use Prim.Native.Nat.{ℕ, suc, _+_, _-_, _*_, _/_, _%_, _^_, _≤_, _<_}
+use native.Mathlib.Nat.{eq-of-mul-eq-mul-right, le-div-iff-mul-le}
 use native.Mathlib.Omega.{arith}
-use lib.ListN.{length, replicate, length-append}
+use lib.ListN.{length, length-append}
 use Rattle.digits.specs.Digits.{Below, value}
 use Rattle.digits.proofs.Digits.{value-snoc}
 use Rattle.digits.proofs.Last.{value-lt}
 use Rattle.scientific.specs.Sci.{Sci, exponentOf, rounded, short, fixed, sci}
 use Rattle.scientific.specs.Layout.{layout, expText}
-use Rattle.scientific.specs.Shape.{Parts, Reads, number, scaled, Denotes, apart}
+use Rattle.scientific.specs.Shape.{Parts, number, Denotes}
 use Rattle.scientific.specs.Demand.{Rounds, Demand3, Shortest, Only}
 use Rattle.scientific.proofs.Tens as T
 use Rattle.scientific.proofs.Fixed as F
 use Rattle.scientific.proofs.Short as S
 use Rattle.scientific.proofs.Text.{parts, reads, number-parts, one-reading}
 
+-- a number denotes one whole number at most
+pub one-value : (s : Sci) (a b : ℕ) → Denotes s a → Denotes s b → a ≡ b
+one-value s a b x y = eq-of-mul-eq-mul-right (10 ^ s .frac) (T.pos (s .frac)) a b (sym x ∙ y)
+
 -- the first of f + 1 digits is not 0
-lead-pos : (f c : ℕ) → 10 ^ f ≤ c → 0 < c / 10 ^ f
+pub lead-pos : (f c : ℕ) → 10 ^ f ≤ c → 0 < c / 10 ^ f
 lead-pos f c h = le-div-iff-mul-le (T.pos f) .1 (omega arith)
 
 -- the text of s is an exponent text with the parts of s, and no others
@@ -57,6 +61,13 @@ facts n p =
 pub demand3 : (letter n p : ℕ) → 57 < letter → fixed p n .expo ≤ 99 → Only letter (expText letter (some p) n) (Demand3 n p)
 unfolding expText sci
 demand3 letter n p l h = only letter (fixed p n) (Demand3 n p) l (rw (F.shown n p .places) (F.shown n p .high)) h (facts n p)
+
+-- zero's text, `zero-text` of Steps, denotes 0
+pub zero-denotes : (letter p : ℕ) → 57 < letter → Only letter (expText letter (some p) 0) (λ x. Denotes (number x) 0)
+zero-denotes letter p l =
+    let z = T.small 0 (omega arith) in
+    let O = demand3 letter 0 p l (omega (arith, F.shown 0 p .most)) in
+    record { parts = O .parts; reads = O .reads; holds = O .holds .exact (omega arith); other = O .other }
 
 -- ---- without precision
 

@@ -1,15 +1,15 @@
 -- With a precision: what the arithmetic of the exponent form makes of n, by the tests of its definition, and that nothing it could show is nearer n.
 -- Assumes nothing.
 use mathlib.Core.Bool.{Bool, true, false}
-use mathlib.Core.Path.{_≡_, refl, sym, ap, _∙_, subst}
-use Prim.Native.Nat.{ℕ, zero, suc, _+_, _-_, _*_, _/_, _%_, _^_, _≤_, _<_}
+use mathlib.Core.Path.{_≡_, refl, sym, ap, _∙_}
+use Prim.Native.Nat.{ℕ, zero, suc, _+_, _-_, _*_, _/_, _^_, _≤_, _<_}
 use native.Mathlib.Nat.{add-mul, mul-comm, mul-sub, mul-assoc, pow-suc, le-div-iff-mul-le, div-lt-iff-lt-mul, mul-le-mul-right, mul-le-mul-left, mul-lt-mul-of-pos-right, le-of-eq, le-trans, mul-mod-left, mul-div-cancel}
 use native.Mathlib.Decide.{decLe}
 use native.Mathlib.Omega.{arith}
 use borrow.Author.Tests.{eqb-true, eqb-false, eq-eqb, ne-eqb, le-leb, lt-leb}
 use lib.Dec.{eqb}
 use Rattle.scientific.specs.Sci.{Sci, exponentOf, rounded, carried, fixedAt, fixed}
-use Rattle.scientific.specs.Shape.{scaled, Denotes, apart}
+use Rattle.scientific.specs.Shape.{scaled, apart}
 use Rattle.scientific.specs.Demand.{Rounds}
 use Rattle.scientific.proofs.Round as R
 use Rattle.scientific.proofs.Tens as T
@@ -21,7 +21,7 @@ apart-mul a b c = sym (add-mul (a - b) (b - a) c ∙ ap (λ (x : ℕ). x + (b - 
     dif : (x y : ℕ) → (x - y) * c ≡ x * c - y * c
     dif x y = mul-comm (x - y) c ∙ mul-sub c x y ∙ ap (λ (z : ℕ). z - c * y) (mul-comm c x) ∙ ap (λ (z : ℕ). x * c - z) (mul-comm c y)
 
-even-power : (k : ℕ) → 0 < k → 2 * (10 ^ k / 2) ≡ 10 ^ k
+pub even-power : (k : ℕ) → 0 < k → 2 * (10 ^ k / 2) ≡ 10 ^ k
 even-power zero h = absurd (omega arith)
 even-power (suc k) h = rw pow-suc (omega arith)
 
@@ -92,11 +92,7 @@ module _ (n p : ℕ) (lt : p < exponentOf n) where
   q = rounded u n
 
   lo : 10 ^ e ≤ n
-  lo = go (decLe 1 n)
-    where
-      go : Dec (0 < n) → 10 ^ e ≤ n
-      go (yes h) = T.lo n h
-      go (no h) = absurd (let z = T.small n (omega arith) in omega arith)
+  lo = T.lo n (T.some n (omega arith))
 
   near : R.Near u n q
   near = R.near u (T.pos (e - p)) (even-power (e - p) (omega arith)) n

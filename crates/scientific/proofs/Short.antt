@@ -1,14 +1,14 @@
 -- Without precision: the number that the exponent form shows is n, its lead digit is not 0, its fraction does not end in 0, and nothing else is so.
 -- Assumes nothing.
 use mathlib.Core.Bool.{Bool, true, false}
-use mathlib.Core.Path.{_≡_, refl, sym, ap, ap₂, _∙_}
+use mathlib.Core.Path.{_≡_, refl, sym, ap₂, _∙_}
 use Prim.Native.Nat.{ℕ, zero, suc, _+_, _-_, _*_, _/_, _%_, _^_, _≤_, _<_}
-use native.Mathlib.Nat.{add-zero, add-suc, mul-one, mul-assoc, mul-le-mul-right, mul-div-cancel, mul-mod-left, pow-zero, pow-suc, le-trans, le-of-eq, le-of-mul-le-mul-right, lt-of-mul-lt-mul-right}
+use native.Mathlib.Nat.{add-zero, add-suc, mul-one, mul-assoc, mul-le-mul-right, pow-zero, pow-suc, le-trans, le-of-eq, le-of-mul-le-mul-right, lt-of-mul-lt-mul-right}
 use native.Mathlib.Omega.{arith}
 use borrow.Author.Tests.{eqb-true, eqb-false, eq-eqb, ne-eqb}
 use lib.Dec.{eqb}
 use Rattle.scientific.specs.Sci.{Sci, exponentOf, trimmed, short}
-use Rattle.scientific.specs.Shape.{scaled, Denotes}
+use Rattle.scientific.specs.Shape.{Denotes}
 use Rattle.scientific.proofs.Tens as T
 
 -- s is m with f fraction digits, less the zeros that end the fraction, with the exponent e

@@ -2,7 +2,7 @@
 -- Assumes nothing.
 use mathlib.Core.Path.{_≡_, ap, _∙_}
 use Prim.Native.Nat.{ℕ, suc, _-_, _*_, _/_, _^_, _≤_, _<_}
-use native.Mathlib.Nat.{one-le-pow, pow-le-pow-right, pow-suc, zero-lt-suc}
+use native.Mathlib.Nat.{one-le-pow, pow-le-pow-right, zero-lt-suc}
 use native.Mathlib.Decide.{decLe}
 use native.Mathlib.Omega.{arith}
 use lib.Dec.{lit<}
@@ -66,6 +66,14 @@ le d n h = omega (arith, digits-are n, digits-length-le 10 ten (suc d) n (zero-l
 -- a loop that divides by ten counts the digits
 pub small : (n : ℕ) → n < 10 → exponentOf n ≡ 0
 small n h = omega (arith, le 0 n h)
+
+-- a number of two or more digits is not 0
+pub some : (n : ℕ) → 0 < exponentOf n → 0 < n
+some n h = go (decLe 1 n)
+  where
+    go : Dec (0 < n) → 0 < n
+    go (yes p) = p
+    go (no f) = absurd (let z = small n (omega arith) in omega arith)
 
 pub step : (n : ℕ) → 10 ≤ n → exponentOf n ≡ suc (exponentOf (n / 10))
 step n h = is (suc (exponentOf (n / 10))) (omega (arith, lo (n / 10) (omega arith))) (omega (arith, hi (n / 10)))
