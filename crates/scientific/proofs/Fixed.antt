@@ -25,8 +25,9 @@ pub even-power : (k : ℕ) → 0 < k → 2 * (10 ^ k / 2) ≡ 10 ^ k
 even-power zero h = absurd (omega arith)
 even-power (suc k) h = rw pow-suc (omega arith)
 
--- ---- what is computed, by the tests that a program makes
+-- ---- which way it goes
 
+-- p is at least e: the digits of n and p - e zeros
 pub fixed-long : (n p : ℕ) → exponentOf n ≤ p → fixed p n ≡ record { coef = n * 10 ^ (p - exponentOf n); frac = p; expo = exponentOf n }
 unfolding fixed fixedAt
 fixed-long n p l = rw (le-leb (exponentOf n) p l, fixedAt)
@@ -34,15 +35,6 @@ fixed-long n p l = rw (le-leb (exponentOf n) p l, fixedAt)
 less : (n p : ℕ) → p < exponentOf n → fixed p n ≡ carried p (exponentOf n) (rounded (10 ^ (exponentOf n - p)) n)
 unfolding fixed fixedAt
 less n p l = rw (lt-leb (exponentOf n) p l, fixedAt)
-
-pub fixed-carry : (n p : ℕ) → p < exponentOf n → rounded (10 ^ (exponentOf n - p)) n ≡ 10 ^ suc p → fixed p n ≡ record { coef = 10 ^ p; frac = p; expo = suc (exponentOf n) }
-unfolding carried
-fixed-carry n p l e = less n p l ∙ rw (eq-eqb (rounded (10 ^ (exponentOf n - p)) n) (10 ^ suc p) e, carried)
-
-pub fixed-stay : (n p : ℕ) → p < exponentOf n → (rounded (10 ^ (exponentOf n - p)) n ≡ 10 ^ suc p → ⊥)
-    → fixed p n ≡ record { coef = rounded (10 ^ (exponentOf n - p)) n; frac = p; expo = exponentOf n }
-unfolding carried
-fixed-stay n p l e = less n p l ∙ rw (ne-eqb (rounded (10 ^ (exponentOf n - p)) n) (10 ^ suc p) e, carried)
 
 -- ---- the carry
 
@@ -60,8 +52,9 @@ carry p e q = go (eqb q (10 ^ suc p)) refl
   where
     go : (t : Bool) → eqb q (10 ^ suc p) ≡ t → Carried p e q (carried p e q)
     go true f =
+        let z : q ≡ 10 ^ p * 10 = eqb-true q (10 ^ suc p) f ∙ pow-suc 10 p in
         rw (f, carried) (record {
-          same = rw (eqb-true q (10 ^ suc p) f, pow-suc 10 e, pow-suc 10 p) (omega arith);
+          same = omega (arith, ap (λ (x : ℕ). x * 10 ^ e) z, ap (λ (x : ℕ). 10 ^ p * x) (pow-suc 10 e));
           places = refl;
           low = λ l. omega arith;
           high = λ h. omega (arith, T.pos p);
@@ -189,3 +182,14 @@ rounds n p l =
 pub fixed-expo : (d n p : ℕ) → 0 < d → n < 10 ^ d → fixed p n .expo ≤ d
 fixed-expo zero n p k h = absurd (omega arith)
 fixed-expo (suc d) n p k h = omega (arith, shown n p .most, T.le d n h)
+
+-- ---- what is computed where p is below e, by the test that a program makes
+
+pub fixed-carry : (n p : ℕ) → p < exponentOf n → rounded (10 ^ (exponentOf n - p)) n ≡ 10 ^ suc p → fixed p n ≡ record { coef = 10 ^ p; frac = p; expo = suc (exponentOf n) }
+unfolding carried
+fixed-carry n p l e = less n p l ∙ rw (eq-eqb (rounded (10 ^ (exponentOf n - p)) n) (10 ^ suc p) e, carried)
+
+pub fixed-stay : (n p : ℕ) → p < exponentOf n → (rounded (10 ^ (exponentOf n - p)) n ≡ 10 ^ suc p → ⊥)
+    → fixed p n ≡ record { coef = rounded (10 ^ (exponentOf n - p)) n; frac = p; expo = exponentOf n }
+unfolding carried
+fixed-stay n p l e = less n p l ∙ rw (ne-eqb (rounded (10 ^ (exponentOf n - p)) n) (10 ^ suc p) e, carried)

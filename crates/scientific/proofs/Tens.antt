@@ -63,9 +63,12 @@ mono {n} {m} h = omega (arith, digits-are n, digits-are m, length-mono 10 ten h)
 pub le : (d n : ℕ) → n < 10 ^ suc d → exponentOf n ≤ d
 le d n h = omega (arith, digits-are n, digits-length-le 10 ten (suc d) n (zero-lt-suc d) h)
 
--- a loop that divides by ten counts the digits
+-- counted by dividing by ten
 pub small : (n : ℕ) → n < 10 → exponentOf n ≡ 0
 small n h = omega (arith, le 0 n h)
+
+pub step : (n : ℕ) → 10 ≤ n → exponentOf n ≡ suc (exponentOf (n / 10))
+step n h = is (suc (exponentOf (n / 10))) (omega (arith, lo (n / 10) (omega arith))) (omega (arith, hi (n / 10)))
 
 -- a number of two or more digits is not 0
 pub some : (n : ℕ) → 0 < exponentOf n → 0 < n
@@ -74,6 +77,3 @@ some n h = go (decLe 1 n)
     go : Dec (0 < n) → 0 < n
     go (yes p) = p
     go (no f) = absurd (let z = small n (omega arith) in omega arith)
-
-pub step : (n : ℕ) → 10 ≤ n → exponentOf n ≡ suc (exponentOf (n / 10))
-step n h = is (suc (exponentOf (n / 10))) (omega (arith, lo (n / 10) (omega arith))) (omega (arith, hi (n / 10)))

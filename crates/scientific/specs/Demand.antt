@@ -26,7 +26,7 @@ pub record Demand3 (n p : ℕ) (x : Parts) : Type 0 where
   pub exact : exponentOf n ≤ p → Denotes (number x) n
   -- else a multiple of u = 10^(e-p), n rounded
   pub rounds : p < exponentOf n → (D : ℕ) × Rounds (10 ^ (exponentOf n - p)) n (number x) D
-  -- no exponent text with p fraction digits, signed or not, of either letter, denotes a number nearer n
+  -- no exponent text with p fraction digits, signed or not, with either letter, denotes a number nearer n
   pub nearest : (signed : Bool) (letter : ℕ) (t : List ℕ) (y : Parts) → Reads signed letter t y → length (y .frac) ≡ p
       → apart false (scaled (number x)) (n * 10 ^ p) ≤ apart (y .minus) (scaled (number y)) (n * 10 ^ p)
 
