@@ -52,6 +52,11 @@ module _ (b : ℕ) (big : 1 < b) where
       let p : b ^ suc (length ds) ≡ b ^ length ds * b = pow-suc b (length ds) in
       e₁ ∙ rw (p, e₂) (omega arith)
 
+  -- the first digit, at its place, and the others
+  pub value-cons : (d : ℕ) (ds : List ℕ) → value b (d ∷ ds) ≡ d * b ^ length ds + value b ds
+  unfolding valueFrom value
+  value-cons d ds = valueFrom-is (0 * b + d) ds ∙ rw (zero-mul, zero-add)
+
   pub value-lt : (ds : List ℕ) → Below b ds → value b ds < b ^ length ds
   unfolding value valueFrom Below
   value-lt [] h = rw pow-zero (omega arith)
@@ -87,6 +92,10 @@ module _ (b : ℕ) (big : 1 < b) where
   last-unique ds h = last-from 0 ds h
 
   -- what stands in front does not matter
+  pub last-cons : (d : ℕ) (ds : List ℕ) → Below b ds → last b (length ds) (value b (d ∷ ds)) ≡ ds
+  unfolding valueFrom value
+  last-cons d ds h = last-from (0 * b + d) ds h
+
   pub last-mod : (k n : ℕ) → last b k (n % b ^ k) ≡ last b k n
   last-mod k n =
       let u = last-unique (last b k n) (last-below k n) in
