@@ -1,0 +1,29 @@
+-- The text of a pattern in binary, octal, lower and upper hex, by document 01's format codes 1 to 4, and its length ("Lengths"). Over all naturals.
+use mathlib.Core.Bool.{cond}
+use mathlib.Core.List.{List}
+use Prim.Native.Nat.{ℕ, _+_, _-_, _/_, _%_, _^_}
+use lib.Dec.{eqb, ltb}
+use Rattle.digits.specs.Text.{text}
+
+-- The byte of a digit: from `0` (48) on, and for 10 and more from the letter on.
+abbrev pub digitByte : ℕ → ℕ → ℕ
+digitByte letter d = cond (ltb d 10) (48 + d) (letter + (d - 10))
+
+-- From `a`, and from `A`.
+abbrev pub lower : ℕ → ℕ
+lower d = digitByte 97 d
+
+abbrev pub upper : ℕ → ℕ
+upper d = digitByte 65 d
+
+-- The text by the format code: 1 binary, 2 octal, 3 lower hex, 4 upper hex.
+abbrev pub radix : ℕ → ℕ → List ℕ
+radix format n = cond (eqb format 1) (text lower 2 n) (cond (eqb format 2) (text lower 8 n) (cond (eqb format 3) (text lower 16 n) (text upper 16 n)))
+
+-- The bits that one digit stands for.
+abbrev pub digitBits : ℕ → ℕ
+digitBits format = cond (eqb format 1) 1 (cond (eqb format 2) 3 4)
+
+-- b over s, rounded up.
+unfoldable pub roundedUp : ℕ → ℕ → ℕ
+roundedUp b s = b / s + cond (eqb (b % s) 0) 0 1

@@ -1,0 +1,128 @@
+// Binary, octal, lower and upper hex, right to left, and their lengths before a byte is written.
+// Carries over radix_integer! of fmt/num.rs: one writer over the bits of a digit and the letter, two digits a turn.
+ghost use mathlib.Core.Path.{_≡_};
+ghost use Prim.Native.Nat.{_+_, _-_, _%_, _^_, _<_, _≤_};
+ghost use lib.ListN.{length};
+ghost use lib.Seq.{sets};
+ghost use Rattle.buffer.specs.AtEnd.{ended};
+ghost use Rattle.digits.specs.Digits.{digits};
+ghost use Rattle.digits.specs.Text.{text, lastText};
+ghost use Rattle.radix.specs.Radix.{digitByte, lower, upper, radix};
+
+// The byte of the digit d.
+fn digit_byte(letter: u8, d: u8) -> u8
+    requires { ⌜ (letter ≤ 97) × (d < 16) ⌝ }
+    ensures { λ r. ⌜ r ≡ digitByte letter d ⌝ }
+{
+    if d < 10 {
+        return b'0' + d;
+    }
+    letter + (d - 10)
+}
+
+// The byte of the last digit of n, which stands for shift bits.
+fn last_byte(shift: u32, letter: u8, n: u64) -> u8
+    requires { ⌜ (shift ≤ 4) × (letter ≤ 97) ⌝ }
+    ensures { λ r. ⌜ r ≡ digitByte letter (n % 2 ^ shift) ⌝ }
+{
+    digit_byte(letter, (n & ((1 << shift) - 1)) as u8)
+}
+
+// The last two digits of n at the index at.
+fn put2(shift: u32, letter: u8, n: u64, buf: &mut [u8], at: usize)
+    requires { ⌜ (shift ≤ 4) × (letter ≤ 97) × (at + 2 ≤ length (now buf)) ⌝ }
+    ensures { λ _. ⌜ now (buf .exit) ≡ sets (now (buf .entry)) at (lastText (digitByte letter) (2 ^ shift) 2 n) ⌝ }
+{
+    buf[at] = last_byte(shift, letter, n >> shift);
+    buf[at + 1] = last_byte(shift, letter, n);
+}
+
+// The text of n in base 2 to the shift just before the index end. The answer is where it starts.
+fn write_digits(shift: u32, letter: u8, n: u64, buf: &mut [u8], end: usize) -> usize
+    requires { ⌜ (0 < shift) × (shift ≤ 4) × (letter ≤ 97) × (length (text (digitByte letter) (2 ^ shift) n) ≤ end) × (end ≤ length (now buf)) ⌝ }
+    ensures { λ r. ⌜ (r ≡ end - length (text (digitByte letter) (2 ^ shift) n)) × (now (buf .exit) ≡ ended (now (buf .entry)) end (text (digitByte letter) (2 ^ shift) n)) ⌝ }
+{
+    let pair = shift + shift;
+    let mut offset = end;
+    let mut remain = n;
+    while remain >> pair != 0 {
+        offset -= 2;
+        put2(shift, letter, remain, buf, offset);
+        remain = remain >> pair;
+    }
+    if remain >> shift != 0 {
+        offset -= 2;
+        put2(shift, letter, remain, buf, offset);
+        return offset;
+    }
+    offset -= 1;
+    buf[offset] = last_byte(shift, letter, remain);
+    offset
+}
+
+// The four texts of a pattern, each just before the index end. The answer is where it starts.
+pub fn write_binary(n: u64, buf: &mut [u8], end: usize) -> usize
+    requires { ⌜ (length (text lower 2 n) ≤ end) × (end ≤ length (now buf)) ⌝ }
+    ensures { λ r. ⌜ (r ≡ end - length (text lower 2 n)) × (now (buf .exit) ≡ ended (now (buf .entry)) end (text lower 2 n)) ⌝ }
+{
+    write_digits(1, b'a', n, buf, end)
+}
+
+pub fn write_octal(n: u64, buf: &mut [u8], end: usize) -> usize
+    requires { ⌜ (length (text lower 8 n) ≤ end) × (end ≤ length (now buf)) ⌝ }
+    ensures { λ r. ⌜ (r ≡ end - length (text lower 8 n)) × (now (buf .exit) ≡ ended (now (buf .entry)) end (text lower 8 n)) ⌝ }
+{
+    write_digits(3, b'a', n, buf, end)
+}
+
+pub fn write_lower_hex(n: u64, buf: &mut [u8], end: usize) -> usize
+    requires { ⌜ (length (text lower 16 n) ≤ end) × (end ≤ length (now buf)) ⌝ }
+    ensures { λ r. ⌜ (r ≡ end - length (text lower 16 n)) × (now (buf .exit) ≡ ended (now (buf .entry)) end (text lower 16 n)) ⌝ }
+{
+    write_digits(4, b'a', n, buf, end)
+}
+
+pub fn write_upper_hex(n: u64, buf: &mut [u8], end: usize) -> usize
+    requires { ⌜ (length (text upper 16 n) ≤ end) × (end ≤ length (now buf)) ⌝ }
+    ensures { λ r. ⌜ (r ≡ end - length (text upper 16 n)) × (now (buf .exit) ≡ ended (now (buf .entry)) end (text upper 16 n)) ⌝ }
+{
+    write_digits(4, b'A', n, buf, end)
+}
+
+// The text of n by the format code, just before the index end. The answer is where it starts.
+pub fn write_before(format: u32, n: u64, buf: &mut [u8], end: usize) -> usize
+    requires { ⌜ (length (radix format n) ≤ end) × (end ≤ length (now buf)) ⌝ }
+    ensures { λ r. ⌜ (r ≡ end - length (radix format n)) × (now (buf .exit) ≡ ended (now (buf .entry)) end (radix format n)) ⌝ }
+{
+    if format == 1 {
+        return write_binary(n, buf, end);
+    }
+    if format == 2 {
+        return write_octal(n, buf, end);
+    }
+    if format == 3 {
+        return write_lower_hex(n, buf, end);
+    }
+    write_upper_hex(n, buf, end)
+}
+
+// How many digits n has in base 2 to the shift: the bits that it needs over the shift, rounded up.
+fn digit_count(shift: u32, n: u64) -> usize
+    requires { ⌜ (0 < shift) × (shift ≤ 4) ⌝ }
+    ensures { λ r. ⌜ r ≡ length (digits (2 ^ shift) n) ⌝ }
+{
+    ((digits::bit_length(n) + (shift - 1)) / shift) as usize
+}
+
+// How long the text of n is by the format code, before a byte of it is written.
+pub fn count(format: u32, n: u64) -> usize
+    ensures { λ r. ⌜ r ≡ length (radix format n) ⌝ }
+{
+    if format == 1 {
+        return digit_count(1, n);
+    }
+    if format == 2 {
+        return digit_count(3, n);
+    }
+    digit_count(4, n)
+}
