@@ -1,0 +1,23 @@
+-- `replay::output::write_front` is safe. Assumes nothing.
+use mathlib.Core.Path.{sym}
+use native.Mathlib.Omega.{arith}
+use borrow.Author.Needs.{needs}
+use lib.Seq.{length-take-le}
+use Rattle.replay.proofs.output.write_front.Statement.{statement}
+use Rattle.replay.proofs.output.write_front.Tie as tie
+
+slice-aggregate-write-all : tie.Need-slice-aggregate-write-all
+slice-aggregate-write-all c =
+    let a = c .before .before .before .args in sym (length-take-le (a .n) (a .bytes .now) (omega arith))
+
+write-all-requires : tie.Need-write-all-requires
+write-all-requires c κs = search needs
+
+returns : tie.Need-returns
+returns c = search needs
+
+returns-2 : tie.Need-returns-2
+returns-2 c = search needs
+
+pub write-front-spec : {M : Type 1} → statement M
+write-front-spec = tie.close (tie.spec slice-aggregate-write-all write-all-requires returns returns-2)

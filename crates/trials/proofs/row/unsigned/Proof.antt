@@ -1,0 +1,42 @@
+-- `trials::row::unsigned` is safe. Assumes nothing.
+use borrow.Author.Needs.{needs}
+use Rattle.decimal.proofs.Ends.{start-within}
+use Rattle.trials.proofs.row.unsigned.Statement.{statement}
+use Rattle.trials.proofs.row.unsigned.Tie as tie
+
+write-all-requires : tie.Need-write-all-requires
+write-all-requires c κs = search needs
+
+end-at-u64-requires : tie.Need-end-at-u64-requires
+end-at-u64-requires c κs = search needs
+
+sub-text : tie.Need-sub-text
+sub-text c = start-within (c .before .before .end-at-u64 .ensures)
+
+part-text-start : tie.Need-part-text-start
+part-text-start c = start-within (c .before .before .before .end-at-u64 .ensures)
+
+part-text-end : tie.Need-part-text-end
+part-text-end c = search needs
+
+text-requires : tie.Need-text-requires
+text-requires c κs = search needs
+
+same-length : tie.Need-same-length
+same-length c = search needs
+
+returns : tie.Need-returns
+returns c = search needs
+
+pub unsigned-spec : {M : Type 1} → statement M
+unsigned-spec =
+    tie.close
+    (tie.spec
+    write-all-requires
+    end-at-u64-requires
+    sub-text
+    part-text-start
+    part-text-end
+    text-requires
+    same-length
+    returns)
