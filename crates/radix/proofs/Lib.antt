@@ -2,4 +2,5 @@
 pub mod Shift
 pub mod Rounded
 pub mod Lengths
+pub mod Table
 pub mod Examples

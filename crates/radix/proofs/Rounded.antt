@@ -20,13 +20,14 @@ two : 1 < 2
 two = lit< tt
 
 module _ (s : ℕ) (p : 0 < s) where
-  -- k times s reaches b, and one time less does not
+  -- where k times s reaches b, and one time less does not
   sum-is : (b k : ℕ) → b ≤ k * s → k * s < b + s → (b + (s - 1)) / s ≡ k
   sum-is b k l h =
       let r : ℕ = b + s - suc (k * s) in
       let e : b + (s - 1) ≡ k * s + r = omega arith in
       rw e (digits-div k (omega arith))
 
+  -- which is so of b over s, rounded up
   reaches : (b : ℕ) → (b ≤ roundedUp b s * s) × (roundedUp b s * s < b + s)
   unfolding roundedUp
   reaches b = go (eqb (b % s) 0) refl
@@ -40,10 +41,11 @@ module _ (s : ℕ) (p : 0 < s) where
           let q : 0 < b % s = pos-of-ne-zero (eqb-false (b % s) 0 e) in
           rw e (omega (arith, m, mod-lt b p), omega (arith, m))
 
-  -- as it is computed
+  -- as the code computes it
   pub rounded-sum : (b : ℕ) → (b + (s - 1)) / s ≡ roundedUp b s
   rounded-sum b = sum-is b (roundedUp b s) (reaches b .0) (reaches b .1)
 
+  -- the digits in base 2 ^ s are the bits over s, rounded up
   pub length-rounded : (n : ℕ) → length (digits (2 ^ s) n) ≡ roundedUp (length (digits 2 n)) s
   length-rounded n = sym (sum-is (length (digits 2 n)) (length (digits (2 ^ s) n)) at-most (⊎-elim none some (eq-zero-or-pos n))) ∙ rounded-sum (length (digits 2 n))
     where

@@ -1,15 +1,15 @@
--- Bases that are a power of two: the last digit of n is its last s bits, and what stands in front of it is n shifted by s.
--- A text is written by pairs of digits while n shifted by both is not 0. Over all naturals, every s above 0 and any alphabet.
+-- Bases that are a power of two, 2 ^ s: the mask of s ones leaves the last digit, and what stands in front of it is n shifted by s.
+-- A text goes by pairs of digits while n shifted by both is not 0. Over all naturals, every s above 0 and any alphabet.
 -- Assumes nothing.
-use mathlib.Core.Path.{_≡_, refl, sym, ap, _∙_, subst}
-use mathlib.Core.List.{List, [], _∷_, _++_, map}
+use mathlib.Core.Path.{_≡_, sym, ap, _∙_}
+use mathlib.Core.List.{[], _∷_, _++_, map}
 use Prim.Native.Nat.{ℕ, zero, suc, _+_, _*_, _-_, _/_, _%_, _≤_, _<_, _^_}
 use native.Mathlib.Nat.{pow-zero, pow-suc, mul-zero, mul-suc, one-mul, div-one, mod-eq-of-lt, mod-lt, lt-of-lt-of-le, div-lt-iff-lt-mul, div-eq-of-lt, div-lt-self}
 use native.Mathlib.Decide.{decLe}
 use native.Mathlib.Omega.{arith}
 use lib.Bits.{bitAnd, and-mask}
-use lib.Pow.{pow-add, pow-lt, pow-pos, pow-mono, shl-exact}
-use Rattle.digits.specs.Digits.{digits, last}
+use lib.Pow.{pow-add, pow-lt, pow-pos, pow-mono}
+use Rattle.digits.specs.Digits.{last}
 use Rattle.digits.specs.Text.{text, lastText}
 use Rattle.digits.proofs.Digits.{digits-length}
 use Rattle.digits.proofs.Last.{digits-last}
@@ -40,16 +40,20 @@ last-digit-below s k n h = lt-of-lt-of-le (mod-lt n (pow-pos s)) (pow-mono h)
 
 -- ---- the last two, and what stands in front
 
--- n over k tells whether k is reached
-some : (k n : ℕ) → (n / k ≡ 0 → ⊥) → k ≤ n
-some k n h = go (decLe k n)
+-- the shift tells whether n reaches the power
+reached : (k n : ℕ) → (n / 2 ^ k ≡ 0 → ⊥) → 2 ^ k ≤ n
+reached k n h = go (decLe (2 ^ k) n)
   where
-    go : Dec (k ≤ n) → k ≤ n
+    go : Dec (2 ^ k ≤ n) → 2 ^ k ≤ n
     go (yes l) = l
     go (no l) = absurd (h (div-eq-of-lt (omega arith)))
 
-none : (k n : ℕ) → 0 < k → n / k ≡ 0 → n < k
-none k n p e = rw one-mul at (div-lt-iff-lt-mul {k = k} {x = n} {y = 1} p .0 (omega arith))
+not-reached : (k n : ℕ) → n / 2 ^ k ≡ 0 → n < 2 ^ k
+not-reached k n e = rw one-mul at (div-lt-iff-lt-mul {k = 2 ^ k} {x = n} {y = 1} (pow-pos k) .0 (omega arith))
+
+-- what a turn leaves is less
+pub shifted-less : (k n : ℕ) → 0 < k → (n / 2 ^ k ≡ 0 → ⊥) → n / 2 ^ k < n
+shifted-less k n p h = div-lt-self (omega (arith, reached k n h, pow-pos k)) (above-one p)
 
 module _ (α : ℕ → ℕ) (b : ℕ) where
   pub pair-is : (n : ℕ) → lastText α b 2 n ≡ α (n / b % b) ∷ α (n % b) ∷ []
@@ -65,18 +69,14 @@ module _ (α : ℕ → ℕ) (s : ℕ) (p : 0 < s) where
   square : 2 ^ (s + s) ≡ (2 ^ s) ^ 2
   square = pow-add 2 s s ∙ sym (pow-suc (2 ^ s) 1 ∙ ap (λ (x : ℕ). x * 2 ^ s) (first-power (2 ^ s)))
 
+  -- more than two digits are left, two, or one
   pub pair-more : (n : ℕ) → (n / 2 ^ (s + s) ≡ 0 → ⊥) → text α (2 ^ s) n ≡ text α (2 ^ s) (n / 2 ^ (s + s)) ++ lastText α (2 ^ s) 2 n
-  pair-more n h = rw square (text-split α (2 ^ s) (above-one p) 2 n (rw square at (some (2 ^ (s + s)) n h)))
+  pair-more n h = rw square (text-split α (2 ^ s) (above-one p) 2 n (rw square at (reached (s + s) n h)))
 
   pub pair-last : (n : ℕ) → n / 2 ^ (s + s) ≡ 0 → (n / 2 ^ s ≡ 0 → ⊥) → text α (2 ^ s) n ≡ lastText α (2 ^ s) 2 n
-  pair-last n e h = text-last α (2 ^ s) (above-one p) 1 n (rw first-power (some (2 ^ s) n h)) (rw square at (none (2 ^ (s + s)) n (pow-pos (s + s)) e))
+  pair-last n e h = text-last α (2 ^ s) (above-one p) 1 n (rw first-power (reached s n h)) (rw square at (not-reached (s + s) n e))
 
   pub one-last : (n : ℕ) → n / 2 ^ s ≡ 0 → text α (2 ^ s) n ≡ α (n % 2 ^ s) ∷ []
   one-last n e =
-      let l : n < 2 ^ s = none (2 ^ s) n (pow-pos s) e in
+      let l : n < 2 ^ s = not-reached s n e in
       rw (mod-eq-of-lt l) (text-small α (2 ^ s) (above-one p) n l)
-
--- ---- the measure of the loop
-
-pub shifted-less : (k n : ℕ) → 0 < k → (n / 2 ^ k ≡ 0 → ⊥) → n / 2 ^ k < n
-shifted-less k n p h = div-lt-self (omega (arith, some (2 ^ k) n h, pow-pos k)) (above-one p)

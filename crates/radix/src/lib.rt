@@ -1,63 +1,76 @@
 // Binary, octal, lower and upper hex, right to left, and their lengths before a byte is written.
-// Carries over radix_integer! of fmt/num.rs: one writer over the bits of a digit and the letter, two digits a turn.
+// Carries over radix_integer! of fmt/num.rs: one writer over the bits of a digit and the table of digits, two digits a turn.
 ghost use mathlib.Core.Path.{_≡_};
 ghost use Prim.Native.Nat.{_+_, _-_, _%_, _^_, _<_, _≤_};
 ghost use lib.ListN.{length};
 ghost use lib.Seq.{sets};
 ghost use Rattle.buffer.specs.AtEnd.{ended};
 ghost use Rattle.digits.specs.Digits.{digits};
+ghost use Rattle.digits.specs.Tables.{tabulate};
 ghost use Rattle.digits.specs.Text.{text, lastText};
-ghost use Rattle.radix.specs.Radix.{digitByte, lower, upper, radix};
+ghost use Rattle.radix.specs.Radix.{lower, upper, alphabet, tableByte, radix};
 
-// The byte of the digit d.
-fn digit_byte(letter: u8, d: u8) -> u8
-    requires { ⌜ (letter ≤ 97) × (d < 16) ⌝ }
-    ensures { λ r. ⌜ r ≡ digitByte letter d ⌝ }
+// The digits in order, in lower and in upper case.
+const LOWER: [u8; 16] = *b"0123456789abcdef";
+
+const UPPER: [u8; 16] = *b"0123456789ABCDEF";
+
+// The table by value, with its rule. A constant that is named is copied each time: the writer takes it once here and lends it on.
+fn digit_table(capital: bool) -> [u8; 16]
+    ensures { λ r. ⌜ r ≡ tabulate 16 (alphabet capital) 0 ⌝ }
 {
-    if d < 10 {
-        return b'0' + d;
+    if capital {
+        return UPPER;
     }
-    letter + (d - 10)
+    LOWER
 }
 
 // The byte of the last digit of n, which stands for shift bits.
-fn last_byte(shift: u32, letter: u8, n: u64) -> u8
-    requires { ⌜ (shift ≤ 4) × (letter ≤ 97) ⌝ }
-    ensures { λ r. ⌜ r ≡ digitByte letter (n % 2 ^ shift) ⌝ }
+fn last_byte(table: &[u8; 16], shift: u32, n: u64) -> u8
+    requires { ⌜ shift ≤ 4 ⌝ }
+    ensures { λ r. ⌜ r ≡ tableByte (now (table .entry)) (n % 2 ^ shift) ⌝ }
 {
-    digit_byte(letter, (n & ((1 << shift) - 1)) as u8)
+    table[(n & ((1 << shift) - 1)) as usize]
 }
 
 // The last two digits of n at the index at.
-fn put2(shift: u32, letter: u8, n: u64, buf: &mut [u8], at: usize)
-    requires { ⌜ (shift ≤ 4) × (letter ≤ 97) × (at + 2 ≤ length (now buf)) ⌝ }
-    ensures { λ _. ⌜ now (buf .exit) ≡ sets (now (buf .entry)) at (lastText (digitByte letter) (2 ^ shift) 2 n) ⌝ }
+fn put2(table: &[u8; 16], shift: u32, n: u64, buf: &mut [u8], at: usize)
+    requires { ⌜ (shift ≤ 4) × (at + 2 ≤ length (now buf)) ⌝ }
+    ensures { λ _. ⌜ now (buf .exit) ≡ sets (now (buf .entry)) at (lastText (tableByte (now (table .entry))) (2 ^ shift) 2 n) ⌝ }
 {
-    buf[at] = last_byte(shift, letter, n >> shift);
-    buf[at + 1] = last_byte(shift, letter, n);
+    buf[at] = last_byte(table, shift, n >> shift);
+    buf[at + 1] = last_byte(table, shift, n);
 }
 
-// The text of n in base 2 to the shift just before the index end. The answer is where it starts.
-fn write_digits(shift: u32, letter: u8, n: u64, buf: &mut [u8], end: usize) -> usize
-    requires { ⌜ (0 < shift) × (shift ≤ 4) × (letter ≤ 97) × (length (text (digitByte letter) (2 ^ shift) n) ≤ end) × (end ≤ length (now buf)) ⌝ }
-    ensures { λ r. ⌜ (r ≡ end - length (text (digitByte letter) (2 ^ shift) n)) × (now (buf .exit) ≡ ended (now (buf .entry)) end (text (digitByte letter) (2 ^ shift) n)) ⌝ }
+// The text of n in base 2 to the shift by the table, just before the index end. The answer is where it starts.
+fn fmt_inner(table: &[u8; 16], shift: u32, n: u64, buf: &mut [u8], end: usize) -> usize
+    requires { ⌜ (0 < shift) × (shift ≤ 4) × (length (text (tableByte (now table)) (2 ^ shift) n) ≤ end) × (end ≤ length (now buf)) ⌝ }
+    ensures { λ r. ⌜ (r ≡ end - length (text (tableByte (now (table .entry))) (2 ^ shift) n)) × (now (buf .exit) ≡ ended (now (buf .entry)) end (text (tableByte (now (table .entry))) (2 ^ shift) n)) ⌝ }
 {
     let pair = shift + shift;
     let mut offset = end;
     let mut remain = n;
     while remain >> pair != 0 {
         offset -= 2;
-        put2(shift, letter, remain, buf, offset);
+        put2(table, shift, remain, buf, offset);
         remain = remain >> pair;
     }
     if remain >> shift != 0 {
         offset -= 2;
-        put2(shift, letter, remain, buf, offset);
+        put2(table, shift, remain, buf, offset);
         return offset;
     }
     offset -= 1;
-    buf[offset] = last_byte(shift, letter, remain);
+    buf[offset] = last_byte(table, shift, remain);
     offset
+}
+
+// The same by the alphabet: capital letters or small ones.
+fn write_digits(capital: bool, shift: u32, n: u64, buf: &mut [u8], end: usize) -> usize
+    requires { ⌜ (0 < shift) × (shift ≤ 4) × (length (text (alphabet capital) (2 ^ shift) n) ≤ end) × (end ≤ length (now buf)) ⌝ }
+    ensures { λ r. ⌜ (r ≡ end - length (text (alphabet capital) (2 ^ shift) n)) × (now (buf .exit) ≡ ended (now (buf .entry)) end (text (alphabet capital) (2 ^ shift) n)) ⌝ }
+{
+    fmt_inner(&digit_table(capital), shift, n, buf, end)
 }
 
 // The four texts of a pattern, each just before the index end. The answer is where it starts.
@@ -65,28 +78,28 @@ pub fn write_binary(n: u64, buf: &mut [u8], end: usize) -> usize
     requires { ⌜ (length (text lower 2 n) ≤ end) × (end ≤ length (now buf)) ⌝ }
     ensures { λ r. ⌜ (r ≡ end - length (text lower 2 n)) × (now (buf .exit) ≡ ended (now (buf .entry)) end (text lower 2 n)) ⌝ }
 {
-    write_digits(1, b'a', n, buf, end)
+    write_digits(false, 1, n, buf, end)
 }
 
 pub fn write_octal(n: u64, buf: &mut [u8], end: usize) -> usize
     requires { ⌜ (length (text lower 8 n) ≤ end) × (end ≤ length (now buf)) ⌝ }
     ensures { λ r. ⌜ (r ≡ end - length (text lower 8 n)) × (now (buf .exit) ≡ ended (now (buf .entry)) end (text lower 8 n)) ⌝ }
 {
-    write_digits(3, b'a', n, buf, end)
+    write_digits(false, 3, n, buf, end)
 }
 
 pub fn write_lower_hex(n: u64, buf: &mut [u8], end: usize) -> usize
     requires { ⌜ (length (text lower 16 n) ≤ end) × (end ≤ length (now buf)) ⌝ }
     ensures { λ r. ⌜ (r ≡ end - length (text lower 16 n)) × (now (buf .exit) ≡ ended (now (buf .entry)) end (text lower 16 n)) ⌝ }
 {
-    write_digits(4, b'a', n, buf, end)
+    write_digits(false, 4, n, buf, end)
 }
 
 pub fn write_upper_hex(n: u64, buf: &mut [u8], end: usize) -> usize
     requires { ⌜ (length (text upper 16 n) ≤ end) × (end ≤ length (now buf)) ⌝ }
     ensures { λ r. ⌜ (r ≡ end - length (text upper 16 n)) × (now (buf .exit) ≡ ended (now (buf .entry)) end (text upper 16 n)) ⌝ }
 {
-    write_digits(4, b'A', n, buf, end)
+    write_digits(true, 4, n, buf, end)
 }
 
 // The text of n by the format code, just before the index end. The answer is where it starts.

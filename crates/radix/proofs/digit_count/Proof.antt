@@ -1,7 +1,7 @@
 -- `radix::digit_count` meets its contract: the bits over the shift, rounded up. Assumes nothing.
-use mathlib.Core.Path.{_≡_, sym, ap, _∙_}
-use Prim.Native.Nat.{ℕ, _+_, _-_, _/_, _≤_, _<_}
-use native.Mathlib.Nat.{div-le-self}
+use mathlib.Core.Path.{sym, _∙_}
+use Prim.Native.Nat.{_≤_}
+use native.Mathlib.Nat.{div-le-self, lt-of-le-of-lt}
 use native.Mathlib.Omega.{arith}
 use lib.Dec.{lit<}
 use Rattle.digits.proofs.Digits.{digits-length-le}
@@ -26,9 +26,7 @@ div-result : tie.Need-div-result
 div-result c = search needs
 
 cast-result : tie.Need-cast-result
-cast-result c =
-    let s = c .before .args .shift in
-    omega (arith, bits-most c, div-le-self (c .bit-length .result + (s - 1)) s)
+cast-result c = record { fits = lt-of-le-of-lt (div-le-self _ _) (omega (arith, bits-most c)) }
 
 returns : tie.Need-returns
 returns c =

@@ -3,7 +3,7 @@ use native.Mathlib.Numerals.{add-one}
 use native.Mathlib.Omega.{arith}
 use Prim.Native.Nat.{_^_}
 use lib.ListN.{length-set}
-use Rattle.radix.specs.Radix.{digitByte}
+use Rattle.radix.specs.Radix.{tableByte}
 use Rattle.radix.proofs.Shift.{pair-is}
 use borrow.Author.Needs.{needs}
 use Rattle.radix.proofs.put2.Statement.{statement}
@@ -33,7 +33,7 @@ same-length c = search needs
 returns : tie.Need-returns
 returns c =
     let a = c .before .before .before .args in
-    let e = pair-is (digitByte (a .letter)) (2 ^ a .shift) (a .n) in
+    let e = pair-is (tableByte (a .table .now)) (2 ^ a .shift) (a .n) in
     rw (e, c .last-byte2 .ensures, c .before .last-byte .ensures, add-one)
 
 pub put2-spec : {M : Type 1} → statement M
