@@ -1,5 +1,7 @@
 // A field of a line: an unsigned decimal number, closed by a space or the line's end.
 
+ghost use Rattle.replay.specs.Fields.{Within};
+
 // A number with the place where its field ends; or no number, or one of more than 64 bits.
 pub enum Field {
     Number(u64, usize),
@@ -27,7 +29,9 @@ fn with_digit(value: u64, byte: u8) -> Value {
 }
 
 // The field that starts at the index from.
-pub fn number_at(line: &[u8], from: usize) -> Field {
+pub fn number_at(line: &[u8], from: usize) -> Field
+    ensures { λ r. ⌜ Within (now (line .entry)) from r ⌝ }
+{
     let mut value = 0;
     let mut at = from;
     while at < line.len() {

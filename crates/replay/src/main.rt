@@ -82,13 +82,12 @@ fn answer(line: &[u8], out: &mut [u8; 4096], waiting: usize) -> usize {
 // The answer to the line that was gathered: `?` where it had more bytes than fit.
 fn answer_gathered(line: &[u8], out: &mut [u8; 4096], s: State) -> usize {
     let length = s.length;
-    if s.long {
-        return output::put(out, s.waiting, b'?');
+    if !s.long {
+        if length <= line.len() {
+            return answer(&line[..length], out, s.waiting);
+        }
     }
-    if length <= line.len() {
-        return answer(&line[..length], out, s.waiting);
-    }
-    s.waiting
+    output::put(out, s.waiting, b'?')
 }
 
 // The line ends here: its answer and a newline, and the next line is empty.

@@ -18,31 +18,27 @@ use row::unsigned;
 
 // The table of document 01. The needed length of what is refused comes with the writer.
 fn table() {
-    unsigned(b"u8 0 decimal: ", 0, &mut [0; U8::BUF_SIZE]);
-    signed(b"i32 -1972 decimal: ", -1972, &mut [0; I32::BUF_SIZE]);
-    signed(b"i64 smallest decimal: ", i64::MIN, &mut [0; I64::BUF_SIZE]);
-    unsigned(b"u32 1972 decimal into 3: ", 1972, &mut [0; 3]);
-    unsigned(b"u32 1972 decimal into 4: ", 1972, &mut [0; 4]);
+    unsigned(b"u8 0 decimal: ", 0, U8::BUF_SIZE);
+    signed(b"i32 -1972 decimal: ", -1972, I32::BUF_SIZE);
+    signed(b"i64 smallest decimal: ", i64::MIN, I64::BUF_SIZE);
+    unsigned(b"u32 1972 decimal into 3: ", 1972, 3);
+    unsigned(b"u32 1972 decimal into 4: ", 1972, 4);
 }
 
 // 0, 32 and the largest of each type are the examples of format_into (fmt/num.rs).
 fn unsigned_types() {
-    unsigned(b"u8 smallest decimal: ", 0, &mut [0; U8::BUF_SIZE]);
-    unsigned(b"u8 32 decimal: ", 32, &mut [0; U8::BUF_SIZE]);
-    unsigned(b"u8 largest decimal: ", 255, &mut [0; U8::BUF_SIZE]);
-    unsigned(b"u16 smallest decimal: ", 0, &mut [0; U16::BUF_SIZE]);
-    unsigned(b"u16 32 decimal: ", 32, &mut [0; U16::BUF_SIZE]);
-    unsigned(b"u16 largest decimal: ", 65_535, &mut [0; U16::BUF_SIZE]);
-    unsigned(b"u32 smallest decimal: ", 0, &mut [0; U32::BUF_SIZE]);
-    unsigned(b"u32 32 decimal: ", 32, &mut [0; U32::BUF_SIZE]);
-    unsigned(
-        b"u32 largest decimal: ",
-        4_294_967_295,
-        &mut [0; U32::BUF_SIZE],
-    );
-    unsigned(b"u64 smallest decimal: ", 0, &mut [0; U64::BUF_SIZE]);
-    unsigned(b"u64 32 decimal: ", 32, &mut [0; U64::BUF_SIZE]);
-    unsigned(b"u64 largest decimal: ", u64::MAX, &mut [0; U64::BUF_SIZE]);
+    unsigned(b"u8 smallest decimal: ", 0, U8::BUF_SIZE);
+    unsigned(b"u8 32 decimal: ", 32, U8::BUF_SIZE);
+    unsigned(b"u8 largest decimal: ", 255, U8::BUF_SIZE);
+    unsigned(b"u16 smallest decimal: ", 0, U16::BUF_SIZE);
+    unsigned(b"u16 32 decimal: ", 32, U16::BUF_SIZE);
+    unsigned(b"u16 largest decimal: ", 65_535, U16::BUF_SIZE);
+    unsigned(b"u32 smallest decimal: ", 0, U32::BUF_SIZE);
+    unsigned(b"u32 32 decimal: ", 32, U32::BUF_SIZE);
+    unsigned(b"u32 largest decimal: ", 4_294_967_295, U32::BUF_SIZE);
+    unsigned(b"u64 smallest decimal: ", 0, U64::BUF_SIZE);
+    unsigned(b"u64 32 decimal: ", 32, U64::BUF_SIZE);
+    unsigned(b"u64 largest decimal: ", u64::MAX, U64::BUF_SIZE);
 }
 
 // The same by value, through the sign split of each type.
@@ -67,7 +63,7 @@ fn signed_types() {
 
 // The examples of NumBuffer (fmt/num_buffer.rs), and what fmt/mod.rs writes by a plain `{}`: format_args!, pad_integral, sign_plus.
 fn examples() {
-    unsigned(b"u32 1972 decimal: ", 1972, &mut [0; U32::BUF_SIZE]);
+    unsigned(b"u32 1972 decimal: ", 1972, U32::BUF_SIZE);
     split(b"i32 -1972 decimal: ", kinds::split_i32(-1972));
     split(b"i32 1 decimal: ", kinds::split_i32(1));
     split(b"i32 2 decimal: ", kinds::split_i32(2));
@@ -77,56 +73,40 @@ fn examples() {
 
 // Exact room, and a byte less.
 fn rooms() {
-    unsigned(b"u64 largest decimal into 20: ", u64::MAX, &mut [0; 20]);
-    unsigned(b"u64 largest decimal into 19: ", u64::MAX, &mut [0; 19]);
-    unsigned(b"u64 0 decimal into 1: ", 0, &mut [0; 1]);
-    unsigned(b"u64 0 decimal into 0: ", 0, &mut [0; 0]);
-    signed(b"i64 largest decimal into 19: ", i64::MAX, &mut [0; 19]);
-    signed(b"i64 largest decimal into 18: ", i64::MAX, &mut [0; 18]);
-    signed(b"i64 smallest decimal into 20: ", i64::MIN, &mut [0; 20]);
-    signed(b"i64 smallest decimal into 19: ", i64::MIN, &mut [0; 19]);
-    signed(b"i64 -1 decimal into 2: ", -1, &mut [0; 2]);
-    signed(b"i64 -1 decimal into 1: ", -1, &mut [0; 1]);
-    signed(b"i64 -1 decimal into 0: ", -1, &mut [0; 0]);
+    unsigned(b"u64 largest decimal into 20: ", u64::MAX, 20);
+    unsigned(b"u64 largest decimal into 19: ", u64::MAX, 19);
+    unsigned(b"u64 0 decimal into 1: ", 0, 1);
+    unsigned(b"u64 0 decimal into 0: ", 0, 0);
+    signed(b"i64 largest decimal into 19: ", i64::MAX, 19);
+    signed(b"i64 largest decimal into 18: ", i64::MAX, 18);
+    signed(b"i64 smallest decimal into 20: ", i64::MIN, 20);
+    signed(b"i64 smallest decimal into 19: ", i64::MIN, 19);
+    signed(b"i64 -1 decimal into 2: ", -1, 2);
+    signed(b"i64 -1 decimal into 1: ", -1, 1);
+    signed(b"i64 -1 decimal into 0: ", -1, 0);
 }
 
 // The bytes in front are as before, and all of them after a refusal.
 fn buffers() {
-    buffer_u64(b"u64 1972 decimal, buffer of 7: ", 1972, &mut [b'.'; 7]);
-    buffer_u64(b"u64 1972 decimal, buffer of 4: ", 1972, &mut [b'.'; 4]);
-    buffer_u64(b"u64 1972 decimal, buffer of 3: ", 1972, &mut [b'.'; 3]);
-    buffer_i64(b"i64 -1972 decimal, buffer of 7: ", -1972, &mut [b'.'; 7]);
-    buffer_i64(b"i64 -1972 decimal, buffer of 5: ", -1972, &mut [b'.'; 5]);
-    buffer_i64(b"i64 -1972 decimal, buffer of 4: ", -1972, &mut [b'.'; 4]);
+    buffer_u64(b"u64 1972 decimal, buffer of 7: ", 1972, 7);
+    buffer_u64(b"u64 1972 decimal, buffer of 4: ", 1972, 4);
+    buffer_u64(b"u64 1972 decimal, buffer of 3: ", 1972, 3);
+    buffer_i64(b"i64 -1972 decimal, buffer of 7: ", -1972, 7);
+    buffer_i64(b"i64 -1972 decimal, buffer of 5: ", -1972, 5);
+    buffer_i64(b"i64 -1972 decimal, buffer of 4: ", -1972, 4);
 }
 
 // The end part that is handed back, the empty one after a refusal.
 fn parts() {
-    part_u64(b"u64 1972 decimal, end part of 7: ", 1972, &mut [b'.'; 7]);
-    part_u64(b"u64 1972 decimal, end part of 3: ", 1972, &mut [b'.'; 3]);
-    part_u64(
-        b"u64 largest decimal, end part of 20: ",
-        u64::MAX,
-        &mut [b'.'; 20],
-    );
-    part_u64(
-        b"u64 largest decimal, end part of 19: ",
-        u64::MAX,
-        &mut [b'.'; 19],
-    );
-    part_u64(b"u64 0 decimal, end part of 0: ", 0, &mut [b'.'; 0]);
-    part_i64(b"i64 -1972 decimal, end part of 7: ", -1972, &mut [b'.'; 7]);
-    part_i64(b"i64 -1972 decimal, end part of 4: ", -1972, &mut [b'.'; 4]);
-    part_i64(
-        b"i64 smallest decimal, end part of 20: ",
-        i64::MIN,
-        &mut [b'.'; 20],
-    );
-    part_i64(
-        b"i64 smallest decimal, end part of 19: ",
-        i64::MIN,
-        &mut [b'.'; 19],
-    );
+    part_u64(b"u64 1972 decimal, end part of 7: ", 1972, 7);
+    part_u64(b"u64 1972 decimal, end part of 3: ", 1972, 3);
+    part_u64(b"u64 largest decimal, end part of 20: ", u64::MAX, 20);
+    part_u64(b"u64 largest decimal, end part of 19: ", u64::MAX, 19);
+    part_u64(b"u64 0 decimal, end part of 0: ", 0, 0);
+    part_i64(b"i64 -1972 decimal, end part of 7: ", -1972, 7);
+    part_i64(b"i64 -1972 decimal, end part of 4: ", -1972, 4);
+    part_i64(b"i64 smallest decimal, end part of 20: ", i64::MIN, 20);
+    part_i64(b"i64 smallest decimal, end part of 19: ", i64::MIN, 19);
 }
 
 fn main() {

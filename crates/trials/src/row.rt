@@ -1,5 +1,16 @@
-// What a row writes behind its label.
+// What a row writes behind its label, over a buffer of so many dots, 24 at most.
 use kinds::Split;
+ghost use Rattle.io.specs.Counts.{Counts};
+
+// The room as far as the space goes.
+fn within(room: usize, space: &[u8]) -> usize
+    ensures { λ r. ⌜ Counts r (now (space .entry)) ⌝ }
+{
+    if room <= space.len() {
+        return room;
+    }
+    space.len()
+}
 
 // A text; where there is none, the number of the refusal NO_ROOM.
 fn text(bytes: &[u8]) {
@@ -17,18 +28,26 @@ fn bracketed(bytes: &[u8]) {
     io::write_all(1, b"]\n");
 }
 
-// The text that end_at_u64 puts into out.
-pub fn unsigned(label: &[u8], value: u64, out: &mut [u8]) {
+// The text by end_at_u64.
+pub fn unsigned(label: &[u8], value: u64, room: usize) {
     io::write_all(1, label);
+    let mut space = [b'.'; 24];
+    let n = within(room, &space);
+    let out = &mut space[..n];
     let at = decimal::end_at_u64(value, out);
-    text(&out[at..]);
+    let all = &out[..];
+    text(&all[at..]);
 }
 
-// The text that end_at_i64 puts into out.
-pub fn signed(label: &[u8], value: i64, out: &mut [u8]) {
+// The text by end_at_i64.
+pub fn signed(label: &[u8], value: i64, room: usize) {
     io::write_all(1, label);
+    let mut space = [b'.'; 24];
+    let n = within(room, &space);
+    let out = &mut space[..n];
     let at = decimal::end_at_i64(value, out);
-    text(&out[at..]);
+    let all = &out[..];
+    text(&all[at..]);
 }
 
 // The sign and the decimal of the magnitude.
@@ -37,33 +56,43 @@ pub fn split(label: &[u8], s: Split) {
     if s.negative {
         io::write_all(1, b"-");
     }
-    unsigned(b"", s.magnitude, &mut [0; 20]);
+    unsigned(b"", s.magnitude, 20);
 }
 
-// All of out after end_at_u64.
-pub fn buffer_u64(label: &[u8], value: u64, out: &mut [u8]) {
+// The whole buffer after end_at_u64.
+pub fn buffer_u64(label: &[u8], value: u64, room: usize) {
     io::write_all(1, label);
+    let mut space = [b'.'; 24];
+    let n = within(room, &space);
+    let out = &mut space[..n];
     decimal::end_at_u64(value, out);
     bracketed(out);
 }
 
-// All of out after end_at_i64.
-pub fn buffer_i64(label: &[u8], value: i64, out: &mut [u8]) {
+// The whole buffer after end_at_i64.
+pub fn buffer_i64(label: &[u8], value: i64, room: usize) {
     io::write_all(1, label);
+    let mut space = [b'.'; 24];
+    let n = within(room, &space);
+    let out = &mut space[..n];
     decimal::end_at_i64(value, out);
     bracketed(out);
 }
 
 // The part that end_u64 hands back.
-pub fn part_u64(label: &[u8], value: u64, out: &mut [u8]) {
+pub fn part_u64(label: &[u8], value: u64, room: usize) {
     io::write_all(1, label);
-    let part = decimal::end_u64(value, out);
+    let mut space = [b'.'; 24];
+    let n = within(room, &space);
+    let part = decimal::end_u64(value, &mut space[..n]);
     bracketed(&part[..]);
 }
 
 // The part that end_i64 hands back.
-pub fn part_i64(label: &[u8], value: i64, out: &mut [u8]) {
+pub fn part_i64(label: &[u8], value: i64, room: usize) {
     io::write_all(1, label);
-    let part = decimal::end_i64(value, out);
+    let mut space = [b'.'; 24];
+    let n = within(room, &space);
+    let part = decimal::end_i64(value, &mut space[..n]);
     bracketed(&part[..]);
 }

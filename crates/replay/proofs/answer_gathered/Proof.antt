@@ -6,25 +6,21 @@ use lib.Seq.{length-take-le}
 use Rattle.replay.proofs.answer_gathered.Statement.{statement}
 use Rattle.replay.proofs.answer_gathered.Tie as tie
 
-put-requires : tie.Need-put-requires
-put-requires c κs = search needs
-
-returns : tie.Need-returns
-returns c = search needs
-
 slice-aggregate-answer : tie.Need-slice-aggregate-answer
-slice-aggregate-answer c = let a = c .before .before .before .before .args in sym (length-take-le (a .s .length) (a .line .now) (omega arith))
+slice-aggregate-answer c = let a = c .before .before .before .before .before .args in sym (length-take-le (a .s .length) (a .line .now) (omega arith))
 
 answer-requires : tie.Need-answer-requires
 answer-requires c κs = search needs
 
+returns : tie.Need-returns
+returns c = search needs
+
+put-requires : tie.Need-put-requires
+put-requires c κs = search needs
+
 returns-2 : tie.Need-returns-2
 returns-2 c = search needs
 
-returns-3 : tie.Need-returns-3
-returns-3 c = search needs
-
 pub answer-gathered-spec : {M : Type 1} → statement M
 answer-gathered-spec =
-    tie.close
-    (tie.spec put-requires returns slice-aggregate-answer answer-requires returns-2 returns-3)
+    tie.close (tie.spec slice-aggregate-answer answer-requires returns put-requires returns-2)

@@ -1,12 +1,13 @@
--- `replay::field::number_at` is safe and ends. Assumes nothing.
-use Prim.Native.Nat.{_-_}
+-- `replay::field::number_at` meets its contract. The invariant: once a byte is passed, the place lies within the line. Assumes nothing.
+use Prim.Native.Nat.{_-_, _≤_, _<_}
+use native.Mathlib.Omega.{arith}
 use borrow.Author.Needs.{needs}
 use lib.ListN.{length}
 use Rattle.replay.proofs.field.number_at.Statement.{statement}
 use Rattle.replay.proofs.field.number_at.Tie as tie
 
 abbrev Inv-loop : tie.InvT-loop
-Inv-loop line from value₀ at₀ value at = Unit {0}
+Inv-loop line from value₀ at₀ value at = (from ≤ at) × (from < at → at ≤ length line)
 
 abbrev μ-loop : tie.MeasureT-loop
 μ-loop line from value₀ at₀ value at = length line - at
@@ -39,7 +40,9 @@ loop-again : tie.Need-loop-again Inv-loop μ-loop
 loop-again c = search needs
 
 returns-2 : tie.Need-returns-2 Inv-loop μ-loop
-returns-2 c = search needs
+returns-2 c =
+    let h : c .before .before .before .before .args .from < c .before .before .loop .at = omega arith in
+    (h, c .before .before .loop .inv .1 h)
 
 returns-3 : tie.Need-returns-3 Inv-loop μ-loop
 returns-3 c = search needs

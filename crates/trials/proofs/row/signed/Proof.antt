@@ -7,11 +7,23 @@ use Rattle.trials.proofs.row.signed.Tie as tie
 write-all-requires : tie.Need-write-all-requires
 write-all-requires c κs = search needs
 
+slice-aggregate-within : tie.Need-slice-aggregate-within
+slice-aggregate-within c = search needs
+
+within-requires : tie.Need-within-requires
+within-requires c κs = search needs
+
+array-borrow-prefix-space : tie.Need-array-borrow-prefix-space
+array-borrow-prefix-space c = search needs
+
+slice-aggregate-out : tie.Need-slice-aggregate-out
+slice-aggregate-out c = search needs
+
 end-at-i64-requires : tie.Need-end-at-i64-requires
 end-at-i64-requires c κs = search needs
 
 sub-text : tie.Need-sub-text
-sub-text c = start-within (c .before .before .end-at-i64 .ensures)
+sub-text c = start-within (c .before .before .before .end-at-i64 .ensures)
 
 part-text-start : tie.Need-part-text-start
 part-text-start c = start-within (c .before .before .before .end-at-i64 .ensures)
@@ -22,9 +34,6 @@ part-text-end c = search needs
 text-requires : tie.Need-text-requires
 text-requires c κs = search needs
 
-same-length : tie.Need-same-length
-same-length c = search needs
-
 returns : tie.Need-returns
 returns c = search needs
 
@@ -33,10 +42,13 @@ signed-spec =
     tie.close
     (tie.spec
     write-all-requires
+    slice-aggregate-within
+    within-requires
+    array-borrow-prefix-space
+    slice-aggregate-out
     end-at-i64-requires
     sub-text
     part-text-start
     part-text-end
     text-requires
-    same-length
     returns)

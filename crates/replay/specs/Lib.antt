@@ -1,0 +1,2 @@
+-- What the field reader promises.
+pub mod Fields
