@@ -7,7 +7,7 @@ use native.Mathlib.Omega.{arith}
 use lib.ListN.{length, length-append}
 use lib.Seq.{sets, length-sets}
 use Rattle.buffer.specs.AtEnd.{ended}
-use Rattle.buffer.proofs.AtEnd.{ended-done, ended-more}
+use Rattle.buffer.proofs.AtEnd.{ended-done, ended-more, ended-sets}
 
 -- The text p is left of the text t, and written so that it ends at the index at of buf it completes what t, ending at end, makes of buf₀.
 pub record Left (buf₀ : List ℕ) (end : ℕ) (t p : List ℕ) (at : ℕ) (buf : List ℕ) : Type 0 where
@@ -37,6 +37,12 @@ module _ {buf₀ : List ℕ} {end : ℕ} {t p : List ℕ} {at : ℕ} {buf : List
         within = rw length-sets (omega (arith, L .within));
         same = length-sets buf o v ∙ L .same;
       }
+
+  -- a layer has written them there
+  pub left-ended : (p′ v : List ℕ) → p ≡ p′ ++ v → Left buf₀ end t p′ (at - length v) (ended buf at v)
+  left-ended p′ v e =
+      let i : at - length v + length v ≡ at = omega (arith, left-room p′ v e) in
+      rw (← ended-sets buf (at - length v) at v i (L .within)) (left-store p′ v (at - length v) e i)
 
   -- the bytes v are all that is left, and are stored
   pub left-last : (v : List ℕ) (o : ℕ) → p ≡ v → o + length v ≡ at → (o ≡ end - length t) × (sets buf o v ≡ ended buf₀ end t)

@@ -1,0 +1,5 @@
+-- Laws that belong to no one function.
+pub mod Text
+pub mod Answers
+pub mod Writing
+pub mod Examples
