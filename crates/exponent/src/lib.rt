@@ -9,11 +9,20 @@ ghost use Rattle.buffer.specs.AtEnd.{ended, begun};
 ghost use Rattle.digits.specs.Text.{decimal};
 ghost use Rattle.scientific.specs.Sci.{exponentOf, up, rounded};
 ghost use Rattle.exponent.specs.Coefficient.{precisionOf, Scales, coefText};
+ghost use Rattle.exponent.specs.Form.{Answers};
+use parts::Formatted;
+use parts::Part;
 
 // How many digits stand behind the point: as many as are needed, or so many.
 pub enum Precision {
     None,
     Digits(u16),
+}
+
+// The text as parts of the scratch bytes, or that its exponent has more than two digits, which no 64-bit number's has.
+pub enum Shown {
+    Parts(Formatted),
+    ExponentRefused,
 }
 
 // The digits of coef, coef_prec of them behind the point, and more_prec zeros behind those; the exponent.
@@ -154,4 +163,23 @@ fn encode_exp(letter: u8, exp: usize, buf: &mut [u8], at: usize) -> usize
     buf[at + 1] = 48 + (exp / 10) as u8;
     buf[at + 2] = 48 + (exp % 10) as u8;
     3
+}
+
+// The exponent form of the magnitude n: in scratch the coefficient, and right behind it the letter and the exponent; as parts, with zeros between the two.
+// 24 bytes hold 20 digits, a point, a letter and two digits.
+pub fn formatted(n: u64, letter: u8, precision: Precision, scratch: &mut [u8; 24]) -> Shown
+    ensures { λ r. ⌜ Answers letter (precisionOf precision) n (now (scratch .exit)) r ⌝ }
+{
+    let scaled = scale(n, precision);
+    if 99 < scaled.exp {
+        return Shown::ExponentRefused;
+    }
+    let coef_len = encode_coef(scaled.coef, scaled.coef_prec, scaled.more_prec, scratch);
+    let exp_len = encode_exp(letter, scaled.exp, scratch, coef_len);
+    Shown::Parts(Formatted {
+        sign: 0,
+        first: Part::copy(0, coef_len as u64),
+        second: Part::zero(scaled.more_prec as u64),
+        third: Part::copy(coef_len as u64, exp_len as u64),
+    })
 }
