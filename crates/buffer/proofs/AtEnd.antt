@@ -6,7 +6,7 @@ use Prim.Native.Nat.{ℕ, zero, suc, _+_, _-_, _≤_, _<_, zero-le}
 use native.Mathlib.Nat.{sub-zero, sub-self}
 use native.Mathlib.Omega.{arith}
 use lib.ListN.{length, getD, take, drop, set, length-append, length-take, length-drop, take-append-drop}
-use lib.Seq.{take-suc, set-at, sets, sets-eq, length-sets, take-append-le, length-take-le, drop-append-add, take-take, drop-at, take-at}
+use lib.Seq.{take-suc, set-at, sets, sets-eq, length-sets, take-append-le, length-take-le, drop-append-add, drop-drop, take-take, drop-at, take-at}
 use Rattle.buffer.specs.AtEnd.{ended, begun}
 
 -- nothing is left to write
@@ -51,3 +51,12 @@ ended-sets l o e v i k = sym (ended-done (sets l o v) o) ∙ ended-more l o e []
 
 pub ended-ended : (l : List ℕ) (e : ℕ) (s t : List ℕ) → length s + length t ≤ e → e ≤ length l → ended (ended l e t) (e - length t) s ≡ ended l e (s ++ t)
 ended-ended l e s t h k = rw (← ended-sets l (e - length t) e t (omega arith) k) (ended-more l (e - length t) e s t (omega arith) (omega arith) k)
+
+-- a text behind another that stands at the start
+pub begun-behind : (l s t : List ℕ) → ended (begun l s) (length s + length t) t ≡ begun l (s ++ t)
+unfolding ended begun
+begun-behind l s t =
+    let q : length s + length t - length t ≡ length s = omega arith in
+    let f : take (length s) (s ++ drop (length s) l) ≡ s = take-at s (drop (length s) l) (length s) refl in
+    let d : drop (length s + length t) (s ++ drop (length s) l) ≡ drop (length s + length t) l = drop-append-add s (drop (length s) l) (length t) ∙ drop-drop (length t) (length s) l in
+    rw (q, f, d, length-append s t) (sym (append-assoc s t (drop (length s + length t) l)))

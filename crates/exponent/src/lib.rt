@@ -1,0 +1,185 @@
+// The exponent form: the coefficient, rounded or without its last zeros, and the exponent; then its text as three parts.
+// Carries over impl_Exp! of fmt/num.rs. checked_ilog10 becomes the count of digits, checked_pow the table of powers.
+ghost use mathlib.Core.Option.{none, some};
+ghost use mathlib.Core.Path.{_≡_};
+ghost use mathlib.Core.List.{_∷_};
+ghost use Prim.Native.Nat.{_+_, _<_, _≤_};
+ghost use lib.ListN.{length};
+ghost use Rattle.buffer.specs.AtEnd.{ended, begun};
+ghost use Rattle.digits.specs.Text.{decimal};
+ghost use Rattle.scientific.specs.Sci.{exponentOf, up, rounded};
+ghost use Rattle.exponent.specs.Coefficient.{precisionOf, Scales, coefText};
+ghost use Rattle.exponent.specs.Form.{Answers};
+use parts::Formatted;
+use parts::Part;
+
+// How many digits stand behind the point: as many as are needed, or so many.
+pub enum Precision {
+    None,
+    Digits(u16),
+}
+
+// The text as parts of the scratch bytes, or that its exponent has more than two digits, which no 64-bit number's has.
+pub enum Shown {
+    Parts(Formatted),
+    ExponentRefused,
+}
+
+// The digits of coef, coef_prec of them behind the point, and more_prec zeros behind those; the exponent.
+struct Scaled {
+    coef: u64,
+    coef_prec: usize,
+    more_prec: usize,
+    exp: usize,
+}
+
+// What is added to the quotient floor, for the rest over and half of the scale: half rounds to even.
+fn round_up(floor: u64, over: u64, half: u64) -> u64
+    ensures { λ r. ⌜ (r ≡ up half over floor) × (r ≤ 1) ⌝ }
+{
+    if over < half {
+        return 0;
+    }
+    if half < over {
+        return 1;
+    }
+    floor % 2
+}
+
+// The quotient of coef by scale, rounded: one division, for however many digits are dropped.
+fn scale_down(coef: u64, scale: u64) -> u64
+    requires { ⌜ 2 ≤ scale ⌝ }
+    ensures { λ r. ⌜ r ≡ rounded scale coef ⌝ }
+{
+    let floor = coef / scale;
+    let over = coef % scale;
+    let half = scale / 2;
+    floor + round_up(floor, over, half)
+}
+
+// With a precision: zeros behind the digits of n, or digits dropped. A quotient that is rounded up to the next power of ten loses its last zero.
+fn fixed(n: u64, exp: usize, fmt_prec: usize) -> Scaled
+    requires { ⌜ (exp ≡ exponentOf n) × («fmt_prec» ≤ 65535) ⌝ }
+    ensures { λ r. ⌜ Scales (some «fmt_prec») n r ⌝ }
+{
+    if exp <= fmt_prec {
+        return Scaled {
+            coef: n,
+            coef_prec: exp,
+            more_prec: fmt_prec - exp,
+            exp,
+        };
+    }
+    let less_prec = exp - fmt_prec;
+    let coef = scale_down(n, digits::power(less_prec));
+    if coef == digits::power(fmt_prec + 1) {
+        return Scaled {
+            coef: coef / 10,
+            coef_prec: fmt_prec,
+            more_prec: 0,
+            exp: exp + 1,
+        };
+    }
+    Scaled {
+        coef,
+        coef_prec: fmt_prec,
+        more_prec: 0,
+        exp,
+    }
+}
+
+// Without precision: any and all trailing zeros are dropped, four at a time, then two, then one.
+fn short(n: u64, exp: usize) -> Scaled
+    requires { ⌜ exp ≡ exponentOf n ⌝ }
+    ensures { λ r. ⌜ Scales none n r ⌝ }
+{
+    if n < 10 {
+        return Scaled {
+            coef: n,
+            coef_prec: exp,
+            more_prec: 0,
+            exp,
+        };
+    }
+    let mut coef = n;
+    let mut coef_prec = exp;
+    while coef % 10000 == 0 {
+        coef = coef / 10000;
+        coef_prec -= 4;
+    }
+    if coef % 100 == 0 {
+        coef = coef / 100;
+        coef_prec -= 2;
+    }
+    if coef % 10 == 0 {
+        coef = coef / 10;
+        coef_prec -= 1;
+    }
+    Scaled {
+        coef,
+        coef_prec,
+        more_prec: 0,
+        exp,
+    }
+}
+
+// The coefficient and the exponent of n.
+fn scale(n: u64, precision: Precision) -> Scaled
+    ensures { λ r. ⌜ Scales (precisionOf precision) n r ⌝ }
+{
+    let exp = digits::digit_count(n) - 1;
+    match precision {
+        Precision::None => short(n, exp),
+        Precision::Digits(fmt_prec) => fixed(n, exp, fmt_prec as usize),
+    }
+}
+
+// The lead digit, the point and the fraction at the start of buf: the digits one place to the right, and the lead moved in front of the point. Their length.
+fn encode_coef(coef: u64, coef_prec: usize, more_prec: usize, buf: &mut [u8]) -> usize
+    requires { ⌜ (exponentOf coef ≡ «coef_prec») × («more_prec» ≤ 65535) × («coef_prec» + 2 ≤ length (now buf)) ⌝ }
+    ensures { λ r. ⌜ (r ≡ length (coefText coef «coef_prec» «more_prec»)) × (now (buf .exit) ≡ begun (now (buf .entry)) (coefText coef «coef_prec» «more_prec»)) ⌝ }
+{
+    if coef_prec + more_prec == 0 {
+        buf[0] = 48 + coef as u8;
+        return 1;
+    }
+    let coef_len = coef_prec + 2;
+    decimal::write_before(coef, buf, coef_len);
+    buf[0] = buf[1];
+    buf[1] = b'.';
+    coef_len
+}
+
+// The letter and the exponent's one or two digits from the index at on. Their length.
+fn encode_exp(letter: u8, exp: usize, buf: &mut [u8], at: usize) -> usize
+    requires { ⌜ (exp < 100) × (at + 3 ≤ length (now buf)) ⌝ }
+    ensures { λ r. ⌜ (r ≡ length (letter ∷ decimal exp)) × (now (buf .exit) ≡ ended (now (buf .entry)) (at + r) (letter ∷ decimal exp)) ⌝ }
+{
+    buf[at] = letter;
+    if exp < 10 {
+        buf[at + 1] = 48 + exp as u8;
+        return 2;
+    }
+    buf[at + 1] = 48 + (exp / 10) as u8;
+    buf[at + 2] = 48 + (exp % 10) as u8;
+    3
+}
+
+// The exponent form of the magnitude n: in scratch the coefficient, and right behind it the letter and the exponent; as parts, with zeros between the two.
+// 24 bytes hold 20 digits, a point, a letter and two digits.
+pub fn formatted(n: u64, letter: u8, precision: Precision, scratch: &mut [u8; 24]) -> Shown
+    ensures { λ r. ⌜ Answers letter (precisionOf precision) n (now (scratch .exit)) r ⌝ }
+{
+    let scaled = scale(n, precision);
+    if 99 < scaled.exp {
+        return Shown::ExponentRefused;
+    }
+    let coef_len = encode_coef(scaled.coef, scaled.coef_prec, scaled.more_prec, scratch);
+    let exp_len = encode_exp(letter, scaled.exp, scratch, coef_len);
+    Shown::Parts(Formatted {
+        sign: 0,
+        first: Part::copy(0, coef_len as u64),
+        second: Part::zero(scaled.more_prec as u64),
+        third: Part::copy(coef_len as u64, exp_len as u64),
+    })
+}
