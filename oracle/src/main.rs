@@ -3,13 +3,14 @@
 //!     oracle                          run every part
 //!     oracle list N SEED --out DIR    write N inputs to DIR/stdin and Rust's answers to DIR/stdout
 
-#![feature(int_format_into)]
+#![feature(formatting_options, int_format_into)]
 
 mod ends;
 mod frame;
 mod list;
 mod report;
 mod values;
+mod writes;
 
 use report::Report;
 use std::process::ExitCode;
@@ -30,6 +31,7 @@ fn main() -> ExitCode {
 fn run() -> ExitCode {
     let mut report = Report::default();
     ends::run(&mut report);
+    writes::run(&mut report);
     report.close()
 }
 
