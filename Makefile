@@ -45,8 +45,8 @@ all: check example
 
 example: archive
 	@mkdir -p build
-	gcc -std=c99 -O2 -Wall -Wextra -pedantic -Iinclude examples/end.c $(lib)/liblarguviet.a -o build/end
-	build/end
+	gcc -std=c99 -O2 -Wall -Wextra -pedantic -Iinclude examples/gearbox.c $(lib)/liblarguviet.a -o build/gearbox
+	build/gearbox
 
 test:
 	@tests/run
