@@ -13,6 +13,9 @@ use crate::report::{Report, Tally, SHARES};
 use crate::values::Random;
 use larguviet::{Answer, Kind, Options};
 
+pub use options::any_call;
+pub use rust::text_of;
+
 const SEED: u64 = 1972;
 
 pub fn run(report: &mut Report) {
@@ -92,7 +95,7 @@ impl<'a> Worker<'a> {
 
     /// Takes Rust's text of a call that only the room can refuse; gives its length.
     fn needed(&mut self, call: &Call) -> usize {
-        rust::text_of(call, &mut self.text);
+        text_of(call, &mut self.text);
         self.text.len()
     }
 
@@ -123,6 +126,16 @@ fn judge(call: &Call, given: Answer, wanted: Answer, left: &str, frame: &Frame, 
 fn every_value(kind: Kind, share: u64) -> impl Iterator<Item = u64> {
     let patterns = 1u64 << kind.bits;
     (share..patterns).step_by(SHARES as usize).map(move |pattern| widened(kind, pattern))
+}
+
+/// The least and the greatest value of a type.
+pub fn ends_of(kind: Kind) -> [u64; 2] {
+    let top = 1 << (kind.bits - 1);
+    if kind.signed {
+        [widened(kind, top), top - 1]
+    } else {
+        [0, top | (top - 1)]
+    }
 }
 
 /// The value of the type whose lowest bits are those of `bits`: an unsigned one, or the signed one's 64-bit pattern.

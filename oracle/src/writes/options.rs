@@ -26,7 +26,7 @@ pub fn run(report: &mut Report) {
     report.part("options, each type: random", |share, tally| {
         let mut worker = Worker::new(share, LONGEST, tally);
         for turn in 0..RANDOM_CALLS / SHARES {
-            let call = any_call(&mut worker.random);
+            let call = short_or_long(&mut worker.random);
             worker.in_turn(&call, turn);
         }
     });
@@ -67,17 +67,20 @@ fn every_fill(share: u64, tally: &mut Tally) {
     }
 }
 
-/// Any call that only the room can refuse.
-fn any_call(random: &mut Random) -> Call {
-    let kind = Kind::ALL[random.below(8) as usize];
-    let (width, precision) = if random.below(SHORT_TO_LONG) == 0 { (1 << 16, 1 << 16) } else { (SHORT, 26) };
-    call_of_sizes(kind, width, precision, random)
+/// Mostly a short text.
+fn short_or_long(random: &mut Random) -> Call {
+    if random.below(SHORT_TO_LONG) == 0 {
+        any_call(1 << 16, 1 << 16, random)
+    } else {
+        any_call(SHORT, 26, random)
+    }
 }
 
-/// A call with a width below `widths`, or none, and a precision below `precisions`, or none.
-pub fn call_of_sizes(kind: Kind, widths: u64, precisions: u64, random: &mut Random) -> Call {
+/// Any call that only the room can refuse, with a width below `widths` and a precision below `precisions`, or none.
+pub fn any_call(widths: u64, precisions: u64, random: &mut Random) -> Call {
     let bits = random.next();
     let flag = |bit: u32| bits >> bit & 1 != 0;
+    let kind = Kind::ALL[random.below(8) as usize];
     let options = Options {
         plus: flag(0),
         alternate: flag(1),

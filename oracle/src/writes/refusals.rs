@@ -1,6 +1,6 @@
 //! Refused calls on purpose: every set of simultaneous faults, with the numbers that a narrower code would let through.
 
-use super::{judge, options, rules, widened, Call, Worker};
+use super::{any_call, ends_of, judge, rules, widened, Call, Worker};
 use crate::report::{Report, SHARES};
 use crate::values::Random;
 use larguviet::{raw, refusal, Kind};
@@ -43,8 +43,7 @@ pub fn run(report: &mut Report) {
 
 /// A call with the faults whose bits are set: 1 type, 2 value, 4 format, 8 alignment, 16 fill.
 fn with_faults(set: u64, random: &mut Random) -> Call {
-    let kind = Kind::ALL[random.below(8) as usize];
-    let mut call = options::call_of_sizes(kind, 40, 30, random);
+    let mut call = any_call(40, 30, random);
     if set & 2 != 0 {
         call.value = outside(call.kind, random);
     }
@@ -81,11 +80,7 @@ fn one_fault(random: &mut Random) -> Vec<Call> {
         all.push(call);
     }
     for kind in Kind::ALL.into_iter().filter(|kind| kind.bits < 64) {
-        let (least, greatest) = if kind.signed {
-            ((-1i64 << (kind.bits - 1)) as u64, (1 << (kind.bits - 1)) - 1)
-        } else {
-            (0, (1 << kind.bits) - 1)
-        };
+        let [least, greatest] = ends_of(kind);
         for value in [least, least.wrapping_sub(1), greatest, greatest + 1, 1 << 63, u64::MAX, u64::MAX >> 1] {
             all.push(Call { kind, value, ..good });
         }

@@ -1,6 +1,6 @@
 //! What a call must answer, from the table of refusals alone: the checks in their order, each with what it returns.
 
-use super::{rust, Call};
+use super::{text_of, Call};
 use larguviet::{Answer, Kind};
 
 const DONE: u64 = 0;
@@ -14,7 +14,7 @@ pub fn answer<'a>(call: &Call, len: usize, text: &'a mut String) -> (Answer, &'a
     match refusal(call) {
         Some(number) => (Answer { number, value: 0 }, ""),
         None => {
-            rust::text_of(call, text);
+            text_of(call, text);
             answer_of_text(text, len)
         }
     }
