@@ -11,7 +11,6 @@ const LARGE: u64 = 24;
 /// What is not a fraction digit: a minus, the lead, the point, the letter and two digits.
 const AROUND_FRACTION: usize = 6;
 const RANDOM_CALLS: u64 = 10_000_000;
-const LARGE_CALLS: u64 = 20_000;
 /// Random prefixes of each length, beside those that round up to the next one and those that must not.
 const PREFIXES: usize = 8;
 
@@ -41,14 +40,13 @@ pub fn run(report: &mut Report) {
             random_call(precision, turn, &mut worker);
         }
     });
-    report.part("exponent, each type: random, precisions to 65,535", |share, tally| {
+    report.part("exponent, each type: every precision", |share, tally| {
         let mut worker = Worker::new(share, u16::MAX as usize + AROUND_FRACTION, tally);
-        for turn in 0..LARGE_CALLS / SHARES {
-            let precision = worker.random.below(1 << 16);
-            random_call(Some(precision), turn, &mut worker);
+        for precision in (share..1 << 16).step_by(SHARES as usize) {
+            random_call(Some(precision), precision / SHARES, &mut worker);
         }
-        for turn in 0..16 {
-            random_call(Some(u16::MAX.into()), turn, &mut worker);
+        for format in FORMATS {
+            worker.around(&exponent(Kind::I64, i64::MIN as u64, format, Some(u16::MAX)));
         }
     });
 }

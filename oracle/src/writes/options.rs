@@ -23,6 +23,20 @@ pub fn run(report: &mut Report) {
         }
     });
     report.part("options, each type: every fill", every_fill);
+    report.part("options, each type: every width", |share, tally| {
+        let mut worker = Worker::new(share, LONGEST, tally);
+        for width in (share..1 << 16).step_by(SHARES as usize) {
+            let mut call = any_call(1, 26, &mut worker.random);
+            call.options.width = width as u16;
+            worker.in_turn(&call, width / SHARES);
+        }
+        for format in 0..7 {
+            let mut call = any_call(1, 1 << 16, &mut worker.random);
+            call.format = format;
+            call.options.width = u16::MAX;
+            worker.around(&call);
+        }
+    });
     report.part("options, each type: random", |share, tally| {
         let mut worker = Worker::new(share, LONGEST, tally);
         for turn in 0..RANDOM_CALLS / SHARES {
