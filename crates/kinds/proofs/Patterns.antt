@@ -15,7 +15,7 @@ use Rattle.kinds.specs.Kinds.{known, inType, pattern, reading, meaning, 
 use Rattle.kinds.specs.declared.Split.{Split}
 
 -- two times half of the numbers of so many bits are all of them
-halves : (b : ℕ) → 1 ≤ b → 2 ^ b ≡ 2 ^ (b - 1) * 2
+pub halves : (b : ℕ) → 1 ≤ b → 2 ^ b ≡ 2 ^ (b - 1) * 2
 halves b h = let e : suc (b - 1) ≡ b = omega arith in sym (ap (λ (k : ℕ). 2 ^ k) e) ∙ pow-suc 2 (b - 1)
 
 -- which way a pattern is read

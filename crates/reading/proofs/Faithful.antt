@@ -1,23 +1,26 @@
 -- In each format a text is read in one way, its parts stand for one value of the type, and the canonical texts of values are the plain ones.
 -- Over the bits, the base and the alphabet. Assumes nothing.
 use mathlib.Core.Bool.{Bool, true, false, false≢true}
-use mathlib.Core.List.{List, _++_, map}
+use mathlib.Core.List.{List, _∷_, _++_, map}
 use mathlib.Core.Option.{none}
 use mathlib.Core.Path.{_≡_, refl, sym, ap, ap₂, _∙_}
 use Prim.Native.Nat.{ℕ, zero, suc, _+_, _-_, _^_, _≤_, _<_}
 use native.Mathlib.Nat.{lt-trans}
 use native.Mathlib.Omega.{arith}
 use borrow.Author.Tests.{ltb-true, ltb-false}
-use lib.Dec.{ltb, lit<}
+use lib.Dec.{ltb, lit<, lit≤}
 use lib.IntN.{ℤ, pos, negsuc, natAbs}
+use lib.ListN.{length, length-append}
 use lib.Pow.{pow-lt}
 use Rattle.digits.specs.Digits.{digits, value}
-use Rattle.digits.specs.Text.{ascii, text, signed}
+use Rattle.digits.specs.Text.{ascii, text, decimal, signed}
 use Rattle.digits.proofs.Digits.{digits-below, digits-some, digits-value}
+use Rattle.digits.proofs.Text.{text-some}
 use Rattle.kinds.specs.Kinds.{inType, pattern, reading, negative}
 use Rattle.kinds.proofs.Patterns.{reading-pattern}
 use Rattle.radix.specs.Radix.{digitByte, lower, upper}
-use Rattle.scientific.specs.Layout.{expText}
+use Rattle.radix.proofs.Table.{table-text}
+use Rattle.scientific.specs.Layout.{layout, expText}
 use Rattle.scientific.specs.Shape.{Parts, Shaped, written, sign, number, Denotes}
 use Rattle.scientific.specs.Canonical.{CanonicalParts, magnitude, Plain}
 use Rattle.scientific.proofs.Canonical.{canonical-plain, plain-canonical, denotes-magnitude}
@@ -37,9 +40,6 @@ pub record Faithful (F : Form) (sgn : Bool) (bits : ℕ) (texts : ℤ → List �
   pub from : (z : ℤ) → inType sgn bits z ≡ true → (x : F .shape .Parts) × F .shape .Shaped x × F .Canonical x × F .Stands x z × (texts z ≡ F .shape .written x)
 
 -- ---- the alphabets
-
-pub ascii-alphabet : Alphabet ascii 10
-ascii-alphabet = record { big = lit< tt; own = λ d e p q h. omega arith; digit = λ d p h. omega arith }
 
 pub letters-alphabet : (letter b : ℕ) → 57 < letter → 1 < b → Alphabet (digitByte letter) b
 letters-alphabet letter b l big = record { big = big; own = λ d e p q. own d e (ltb d 10) (ltb e 10) refl refl; digit = λ d p. digit d (ltb d 10) refl }
@@ -117,13 +117,20 @@ module _ (α : ℕ → ℕ) (b : ℕ) (A : Alphabet α b) where
       no-minus true f = absurd (false≢true (f refl))
       no-minus false f = refl
 
-signed-is : (z : ℤ) → signed z ≡ sign (negative z) ++ text ascii 10 (natAbs z)
+tens : Alphabet lower 10
+tens = letters-alphabet 97 10 (lit< tt) (lit< tt)
+
+-- decimal digits need no letters
+decimal-is : (n : ℕ) → decimal n ≡ text lower 10 n
+decimal-is n = sym (table-text 10 ascii 10 n (lit< tt) (lit≤ tt)) ∙ table-text 10 lower 10 n (lit< tt) (lit≤ tt)
+
+signed-is : (z : ℤ) → signed z ≡ sign (negative z) ++ text lower 10 (natAbs z)
 unfolding signed
-signed-is (pos n) = refl
-signed-is (negsuc k) = refl
+signed-is (pos n) = decimal-is n
+signed-is (negsuc k) = ap (λ (l : List ℕ). 45 ∷ l) (decimal-is (suc k))
 
 -- a magnitude that is not 0 behind a minus
-sign-of : (m : Bool) (n : ℕ) → (m ≡ true → n ≡ 0 → ⊥) → (negative (whole m n) ≡ m) × (natAbs (whole m n) ≡ n)
+pub sign-of : (m : Bool) (n : ℕ) → (m ≡ true → n ≡ 0 → ⊥) → (negative (whole m n) ≡ m) × (natAbs (whole m n) ≡ n)
 sign-of false n h = (refl, refl)
 sign-of true zero h = absurd (h refl refl)
 sign-of true (suc k) h = (refl, refl)
@@ -131,23 +138,23 @@ sign-of true (suc k) h = (refl, refl)
 pub decimal-faithful : (sgn : Bool) (bits : ℕ) → Faithful (decimalForm sgn) sgn bits signed
 unfolding text
 decimal-faithful sgn bits = record {
-  once = one-reading ascii 10 ascii-alphabet sgn;
+  once = one-reading lower 10 tens sgn;
   alone = λ x z w p q e f. e ∙ sym f;
   to = λ x z t h K S. to x z h K S;
   from = λ z t. (
     record { minus = negative z; digits = digits 10 (natAbs z) },
-    whole-shaped ascii 10 ascii-alphabet sgn (negative z) (natAbs z) (negative-signed sgn bits z t),
-    digits-canonical ascii 10 ascii-alphabet (negative z) (natAbs z) (λ e n. omega (arith, negative-pos z e)),
-    sym (ap (whole (negative z)) (digits-value 10 (ascii-alphabet .big) (natAbs z)) ∙ whole-split z),
+    whole-shaped lower 10 tens sgn (negative z) (natAbs z) (negative-signed sgn bits z t),
+    digits-canonical lower 10 tens (negative z) (natAbs z) (λ e n. omega (arith, negative-pos z e)),
+    sym (ap (whole (negative z)) (digits-value 10 (tens .big) (natAbs z)) ∙ whole-split z),
     signed-is z,
   );
 }
   where
-    to : (x : Whole) (z : ℤ) → ShapedWhole sgn 10 x → CanonicalWhole 10 x → z ≡ whole (x .minus) (value 10 (x .digits)) → writtenWhole ascii x ≡ signed z
+    to : (x : Whole) (z : ℤ) → ShapedWhole sgn 10 x → CanonicalWhole 10 x → z ≡ whole (x .minus) (value 10 (x .digits)) → writtenWhole lower x ≡ signed z
     to x z h K S =
         let s = sign-of (x .minus) (value 10 (x .digits)) (K .minus) in
-        let w = ap₂ (λ (m : Bool) (n : ℕ). sign m ++ text ascii 10 n) (s .0) (s .1) in
-        written-text ascii 10 ascii-alphabet sgn x h K ∙ sym w ∙ sym (signed-is (whole (x .minus) (value 10 (x .digits)))) ∙ ap signed (sym S)
+        let w = ap₂ (λ (m : Bool) (n : ℕ). sign m ++ text lower 10 n) (s .0) (s .1) in
+        written-text lower 10 tens sgn x h K ∙ sym w ∙ sym (signed-is (whole (x .minus) (value 10 (x .digits)))) ∙ ap signed (sym S)
 
 -- ---- exponent texts
 
@@ -189,3 +196,21 @@ faithful sgn bits (suc (suc (suc zero))) one small = radix-faithful lower 16 (le
 faithful sgn bits (suc (suc (suc (suc zero)))) one small = radix-faithful upper 16 (letters-alphabet 65 16 (lit< tt) (lit< tt)) sgn bits one
 faithful sgn bits (suc (suc (suc (suc (suc zero))))) one small = exponent-faithful sgn bits 101 one small (lit< tt)
 faithful sgn bits (suc (suc (suc (suc (suc (suc k)))))) one small = exponent-faithful sgn bits 69 one small (lit< tt)
+
+-- no plain text is empty
+behind : (m : Bool) (u : List ℕ) → 0 < length u → 0 < length (sign m ++ u)
+behind m u h = rw (length-append (sign m) u) (omega arith)
+
+exponent-some : (letter : ℕ) (z : ℤ) → 0 < length (exponentText letter z)
+unfolding expText layout
+exponent-some letter z = behind (negative z) (expText letter none (natAbs z)) (omega arith)
+
+pub plain-some : (bits format : ℕ) (z : ℤ) → 0 < length (plain bits format z)
+unfolding plain
+plain-some bits zero z = rw (signed-is z) (behind (negative z) (text lower 10 (natAbs z)) (text-some lower 10 (lit< tt) (natAbs z)))
+plain-some bits (suc zero) z = text-some lower 2 (lit< tt) (pattern bits z)
+plain-some bits (suc (suc zero)) z = text-some lower 8 (lit< tt) (pattern bits z)
+plain-some bits (suc (suc (suc zero))) z = text-some lower 16 (lit< tt) (pattern bits z)
+plain-some bits (suc (suc (suc (suc zero)))) z = text-some upper 16 (lit< tt) (pattern bits z)
+plain-some bits (suc (suc (suc (suc (suc zero))))) z = exponent-some 101 z
+plain-some bits (suc (suc (suc (suc (suc (suc k)))))) z = exponent-some 69 z

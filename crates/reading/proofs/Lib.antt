@@ -3,3 +3,4 @@ pub mod Place
 pub mod Whole
 pub mod Faithful
 pub mod Judged
+pub mod Exponent

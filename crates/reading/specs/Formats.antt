@@ -6,7 +6,7 @@ use mathlib.Core.Path.{_≡_}
 use Prim.Native.Nat.{ℕ, zero, suc}
 use lib.IntN.{ℤ, pos, negsuc, natAbs}
 use Rattle.digits.specs.Digits.{value}
-use Rattle.digits.specs.Text.{ascii, signed}
+use Rattle.digits.specs.Text.{signed}
 use Rattle.kinds.specs.Kinds.{pattern, negative}
 use Rattle.radix.specs.Radix.{lower, upper, radix}
 use Rattle.scientific.specs.Layout.{expText}
@@ -21,9 +21,9 @@ whole false n = pos n
 whole true zero = pos zero
 whole true (suc k) = negsuc k
 
--- Decimal: a minus for signed types only; the digits are the magnitude.
+-- Decimal, whose digits need no letters: a minus for signed types only; the digits are the magnitude.
 abbrev pub decimalForm : Bool → Form
-decimalForm sgn = wholeForm sgn ascii 10 (λ (x : Whole) (z : ℤ). z ≡ whole (x .minus) (value 10 (x .digits)))
+decimalForm sgn = wholeForm sgn lower 10 (λ (x : Whole) (z : ℤ). z ≡ whole (x .minus) (value 10 (x .digits)))
 
 -- Binary, octal, hex: the digits are the pattern at the type's bits. A pattern beyond them is no value's.
 abbrev pub radixForm : (ℕ → ℕ) → ℕ → ℕ → Form

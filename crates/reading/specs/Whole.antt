@@ -1,6 +1,6 @@
 -- Texts of digits, behind a minus or none (document 01, "Reading", codes 0 to 4): shape, canonical. Over the alphabet and the base.
 use mathlib.Core.Bool.{Bool, true}
-use mathlib.Core.List.{List, [], _∷_, _++_, map}
+use mathlib.Core.List.{List, _∷_, _++_, map}
 use mathlib.Core.Path.{_≡_}
 use Prim.Native.Nat.{ℕ, _<_}
 use lib.IntN.{ℤ}
