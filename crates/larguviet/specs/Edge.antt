@@ -6,6 +6,9 @@ use Prim.Native.Nat.{ℕ}
 use lib.Dec.{eqb}
 use Rattle.exponent.specs.declared.Precision.{Precision}
 use Rattle.exponent.specs.declared.Precision.the-variants.{None, Digits}
+use Rattle.reader.specs.Answers as reader
+use Rattle.reader.specs.Answers.{numberOf, valueOf}
+use Rattle.reader.specs.declared.Outcome.{Outcome}
 use Rattle.writer.specs.Promise.{number, value, after}
 use Rattle.writer.specs.declared.Options.{Options}
 use Rattle.writer.specs.declared.Written.{Written}
@@ -25,3 +28,10 @@ pub record Answers (t : List ℕ) (a : Written) (l : List ℕ) (n v : ℕ) (l′
   pub numbered : n ≡ number a
   pub returns : v ≡ value a
   pub leaves : l′ ≡ after a t l
+
+-- What the reading entry promises of the text t: the numbers of the one answer that document 01 gives.
+pub record Reads (sgn : Bool) (bits format : ℕ) (t : List ℕ) (n v : ℕ) : Type 0 where
+  pub outcome : Outcome
+  pub is : reader.Answers sgn bits format t outcome
+  pub numbered : n ≡ numberOf outcome
+  pub returns : v ≡ valueOf outcome

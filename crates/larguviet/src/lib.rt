@@ -6,7 +6,7 @@ ghost use Rattle.decimal.specs.Ends.{EndPromise};
 ghost use Rattle.kinds.specs.Kinds.{meaning};
 ghost use Rattle.writer.specs.Text.{textOf};
 ghost use Rattle.writer.specs.Promise.{answer, house};
-ghost use Rattle.larguviet.specs.Edge.{set, precisionFrom, optionsFrom, Answers};
+ghost use Rattle.larguviet.specs.Edge.{set, precisionFrom, optionsFrom, Answers, Reads};
 use exponent::Precision;
 use kinds::Kind;
 use writer::Options;
@@ -88,6 +88,22 @@ pub extern "C" fn lgv_write_short(
     Answer {
         number: written.number(),
         value: written.value() as u64,
+    }
+}
+
+// A plain text back to its value.
+#[no_mangle]
+pub extern "C" fn lgv_read(bits: u32, is_signed: u32, format: u32, text: &[u8]) -> Answer
+    ensures { λ r. ⌜ Reads (set «is_signed») bits format (now (text .entry)) (r .number) (r .value) ⌝ }
+{
+    let kind = Kind {
+        bits,
+        signed: is_signed != 0,
+    };
+    let found = reader::read(kind, format, text);
+    Answer {
+        number: found.number() as u64,
+        value: found.value(),
     }
 }
 
