@@ -52,6 +52,10 @@ ended-sets l o e v i k = sym (ended-done (sets l o v) o) ∙ ended-more l o e []
 pub ended-ended : (l : List ℕ) (e : ℕ) (s t : List ℕ) → length s + length t ≤ e → e ≤ length l → ended (ended l e t) (e - length t) s ≡ ended l e (s ++ t)
 ended-ended l e s t h k = rw (← ended-sets l (e - length t) e t (omega arith) k) (ended-more l (e - length t) e s t (omega arith) (omega arith) k)
 
+-- the same of two stores one after the other: m is l with t before e, and m′ is m with s before where t starts
+pub ended-on : (l : List ℕ) (e : ℕ) (t s : List ℕ) {m m′ : List ℕ} {o : ℕ} → m ≡ ended l e t → m′ ≡ ended m o s → o ≡ e - length t → length s + length t ≤ e → e ≤ length l → m′ ≡ ended l e (s ++ t)
+ended-on l e t s f g i h k = g ∙ rw (i, f) (ended-ended l e s t h k)
+
 -- a text behind another that stands at the start
 pub begun-behind : (l s t : List ℕ) → ended (begun l s) (length s + length t) t ≡ begun l (s ++ t)
 unfolding ended begun

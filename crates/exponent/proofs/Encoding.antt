@@ -19,7 +19,7 @@ use Rattle.scientific.proofs.Tens as T
 use Rattle.exponent.specs.Coefficient.{coefText}
 
 -- the digits of m: the one that leads, and the f others
-pub lead-first : (m f : ℕ) → exponentOf m ≡ f → decimal m ≡ ascii (m / 10 ^ f) ∷ lastText ascii 10 f m
+lead-first : (m f : ℕ) → exponentOf m ≡ f → decimal m ≡ ascii (m / 10 ^ f) ∷ lastText ascii 10 f m
 unfolding text lastText last
 lead-first m f e =
     let l : m / 10 ^ f % 10 ≡ m / 10 ^ f = mod-eq-of-lt (div-lt-iff-lt-mul (T.pos f) .1 (omega (arith, rw e at (T.hi m)))) in

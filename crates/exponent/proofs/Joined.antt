@@ -3,7 +3,7 @@
 use mathlib.Core.List.{List, _∷_, _++_, append-assoc, append-nil}
 use mathlib.Core.Option.{Option}
 use mathlib.Core.Path.{_≡_, refl, sym, ap, _∙_}
-use Prim.Native.Nat.{ℕ, zero, suc, _+_, _^_, _≤_, _<_}
+use Prim.Native.Nat.{ℕ, zero, suc, _+_, _≤_}
 use native.Mathlib.Omega.{arith}
 use borrow.Author.Tests.{le-ltb}
 use lib.ListN.{length, take, drop, replicate, length-append}
@@ -63,23 +63,6 @@ three-length a z b = omega arith
 
 -- ---- the text of n
 
--- the parts of a text t at the start of the scratch bytes, z zeros, and a text u behind t
-laid : (l t u : List ℕ) (letter n z : ℕ) (p : Option ℕ) → t ++ (replicate z 48 ++ u) ≡ expText letter p n → length t + (z + length u) < 2 ^ 17
-    → Texts letter p n (ended (begun l t) (length t + length u) u) (three (length t) z (length u))
-unfolding begun
-laid l t u letter n z p e h =
-    let r : List ℕ = drop (length (t ++ u)) l in
-    let I = three-inside t u r z in
-    let T = three-text t u r z ∙ e in
-    let L = sym (length-text 0 ((t ++ u) ++ r) (partsOf (three (length t) z (length u))) I) ∙ ap length T in
-    rw (begun-behind l t u) (record {
-      sign = refl;
-      inside = I;
-      text = T;
-      size = L;
-      few = rw (← L, three-length (length t) z (length u)) h;
-    })
-
 module _ (letter n : ℕ) (p : Option ℕ) (s : Scaled) (S : Scales p n s) where
   abbrev coef : List ℕ
   coef = coefText (s .coef) (s .«coef_prec») (s .«more_prec»)
@@ -91,9 +74,24 @@ module _ (letter n : ℕ) (p : Option ℕ) (s : Scaled) (S : Scales p n s) where
   unfolding expText coefText
   text-is = sym (ap (layout letter) (S .is) ∙ layout-zeros letter (s .coef) (s .«coef_prec») (s .«more_prec») (s .exp))
 
-  -- a bytes of the coefficient and b of the exponent were written
-  pub texts : (l : List ℕ) (a b : ℕ) → s .exp ≤ 99 → a ≡ length coef → b ≡ length expo → Texts letter p n (ended (begun l coef) (a + b) expo) (three a (s .«more_prec») b)
-  texts l a b h i j =
+  -- the coefficient is written at the start of the bytes l, and the exponent behind it
+  pub texts : (l mid src : List ℕ) (a b : ℕ) → a ≡ length coef → b ≡ length expo → mid ≡ begun l coef → src ≡ ended mid (a + b) expo → length src ≡ 24 → s .exp ≤ 99
+      → Texts letter p n src (three a (s .«more_prec») b)
+  unfolding begun
+  texts l mid src a b i j e₁ e₂ k h =
+      let r : List ℕ = drop (length (coef ++ expo)) l in
+      let e : src ≡ (coef ++ expo) ++ r = e₂ ∙ rw (e₁, i, j) (begun-behind l coef expo) in
+      let I : Inside (length src) (partsOf (three a (s .«more_prec») b)) = rw (e, i, j) (three-inside coef expo r (s .«more_prec»)) in
+      let X : textOf 0 src (partsOf (three a (s .«more_prec») b)) ≡ expText letter p n = rw (e, i, j) (three-text coef expo r (s .«more_prec») ∙ text-is) in
+      let L = sym (length-text 0 src (partsOf (three a (s .«more_prec») b)) I) ∙ ap length X in
       let t = coef-length (s .coef) (s .«coef_prec») (s .«more_prec») in
       let u = exp-length letter (s .exp) h in
-      rw (i, j) (laid l coef expo letter n (s .«more_prec») p text-is (omega (arith, S .few, S .zeros)))
+      record {
+        expo = rw (S .is) h;
+        source = k;
+        sign = refl;
+        inside = I;
+        text = X;
+        size = L;
+        few = rw (← L, three-length a (s .«more_prec») b) (omega (arith, S .few, S .zeros));
+      }

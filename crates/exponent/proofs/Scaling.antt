@@ -7,27 +7,12 @@ use native.Mathlib.Nat.{add-zero, mul-one, mul-assoc, mul-comm, pow-zero, pow-su
 use native.Mathlib.Numerals.{add-one}
 use native.Mathlib.Decide.{decLe}
 use native.Mathlib.Omega.{arith}
-use borrow.Author.Tests.{lt-ltb, le-ltb, eq-eqb, ne-eqb}
 use lib.Pow.{pow-add}
-use Rattle.scientific.specs.Sci.{Sci, exponentOf, up, rounded, fixed, short, sci}
+use Rattle.scientific.specs.Sci.{Sci, exponentOf, rounded, fixed, short, sci}
 use Rattle.scientific.proofs.Fixed.{fixed-long, fixed-carry, fixed-stay, q-low, q-high}
 use Rattle.scientific.proofs.Short.{short-is, zeros-most, shown}
 use Rattle.scientific.proofs.Tens as T
 use Rattle.exponent.specs.Coefficient.{Scales}
-
--- ---- what is added to the quotient, by where the rest lies
-
-pub up-under : (h r q : ℕ) → r < h → 0 ≡ up h r q
-unfolding up
-up-under h r q l = rw (le-ltb h r (omega arith), ne-eqb r h (omega arith), up)
-
-pub up-above : (h r q : ℕ) → h < r → 1 ≡ up h r q
-unfolding up
-up-above h r q l = rw (lt-ltb h r l, up)
-
-pub up-tie : (h r q : ℕ) → r ≡ h → q % 2 ≡ up h r q
-unfolding up
-up-tie h r q e = rw (le-ltb h r (omega arith), eq-eqb r h e, up)
 
 -- a quotient by 2 or more is at most the half
 pub halved : (n u : ℕ) → 2 ≤ u → n / u * 2 ≤ n

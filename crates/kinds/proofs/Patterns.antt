@@ -10,6 +10,7 @@ use native.Mathlib.Omega.{arith}
 use borrow.Author.Tests.{ltb-true, ltb-false, lt-ltb, le-ltb, ne-eqb}
 use lib.Dec.{ltb}
 use lib.IntN.{ℤ, pos, negsuc, natAbs}
+use lib.Signed.{mag}
 use lib.Pow.{pow-lt, pow-mono, pow-pos, not-mod}
 use Rattle.kinds.specs.Kinds.{known, inType, pattern, reading, meaning, splitOf}
 use Rattle.kinds.specs.declared.Split.{Split}
@@ -49,6 +50,14 @@ own-pattern w b (negsuc k) one h t =
     let m = not-mod {a = k} (w - b) b (omega (arith, halves b one)) in
     let e₂ : 2 ^ w - suc k ≡ (2 ^ ((w - b) + b) - 1) - k = omega (arith, ap (λ (j : ℕ). 2 ^ j) e) in
     ap (λ (x : ℕ). x % 2 ^ b) e₂ ∙ m ∙ omega arith
+
+-- a signed value of so many bits: it is in its type, and its word's pattern stands for it
+pub signed-own : (b : ℕ) (z : ℤ) → mag z < 2 ^ (b - 1) → inType true b z ≡ true
+signed-own b (pos n) h = lt-ltb n (2 ^ (b - 1)) h
+signed-own b (negsuc k) h = lt-ltb k (2 ^ (b - 1)) h
+
+pub signed-meaning : (w b : ℕ) (z : ℤ) (p : ℕ) → 1 ≤ w → b ≤ w → mag z < 2 ^ (b - 1) → p ≡ pattern w z → meaning w true p ≡ z
+signed-meaning w b z p one h m e = rw e (reading-pattern w b z one h (signed-own b z m))
 
 -- ---- the range test of a word's pattern
 

@@ -1,6 +1,95 @@
-// The C edge: what the firmware in C calls, and the Rust oracle. A slice is a pointer and a length.
+// The C edge: what the firmware in C calls, and the Rust oracle. A slice is a pointer and a length; an answer is two words.
+ghost use mathlib.Core.Path.{_≡_};
+ghost use lib.ListN.{length};
 ghost use Rattle.digits.specs.Text.{decimal, signed};
 ghost use Rattle.decimal.specs.Ends.{EndPromise};
+ghost use Rattle.kinds.specs.Kinds.{meaning};
+ghost use Rattle.writer.specs.Text.{textOf};
+ghost use Rattle.writer.specs.Promise.{answer, house};
+ghost use Rattle.larguviet.specs.Edge.{set, precisionFrom, optionsFrom, Answers};
+use exponent::Precision;
+use kinds::Kind;
+use writer::Options;
+use writer::Written;
+
+// Document 01's number of the answer, and what it returns.
+#[repr(C)]
+pub struct Answer {
+    pub number: u64,
+    pub value: u64,
+}
+
+// The precision, where one is given.
+fn precision_from(given: u32, digits: u16) -> Precision
+    ensures { λ r. ⌜ r ≡ precisionFrom given digits ⌝ }
+{
+    if given != 0 {
+        return Precision::Digits(digits);
+    }
+    Precision::None
+}
+
+// The text of a value by type, format and options, at the start of out.
+#[no_mangle]
+pub extern "C" fn lgv_write(
+    bits: u32,
+    is_signed: u32,
+    value: u64,
+    format: u32,
+    plus: u32,
+    alternate: u32,
+    zero: u32,
+    fill: u32,
+    align: u32,
+    width: u16,
+    has_precision: u32,
+    precision: u16,
+    out: &mut [u8],
+) -> Answer
+    ensures { λ r. ⌜ Answers (textOf bits (meaning 64 (set «is_signed») value) format (optionsFrom plus alternate «zero» fill align width «has_precision» precision)) (answer (set «is_signed») bits value format (optionsFrom plus alternate «zero» fill align width «has_precision» precision) (length (now (out .entry)))) (now (out .entry)) (r .number) (r .value) (now (out .exit)) ⌝ }
+{
+    let kind = Kind {
+        bits,
+        signed: is_signed != 0,
+    };
+    let digits = precision_from(has_precision, precision);
+    let options = Options {
+        plus: plus != 0,
+        alternate: alternate != 0,
+        zero: zero != 0,
+        fill,
+        align,
+        width,
+        precision: digits,
+    };
+    let written = writer::write(kind, value, format, options, out);
+    Answer {
+        number: written.number(),
+        value: written.value() as u64,
+    }
+}
+
+// The same at the house default.
+#[no_mangle]
+pub extern "C" fn lgv_write_short(
+    bits: u32,
+    is_signed: u32,
+    value: u64,
+    format: u32,
+    out: &mut [u8],
+) -> Answer
+    ensures { λ r. ⌜ Answers (textOf bits (meaning 64 (set «is_signed») value) format house) (answer (set «is_signed») bits value format house (length (now (out .entry)))) (now (out .entry)) (r .number) (r .value) (now (out .exit)) ⌝ }
+{
+    let kind = Kind {
+        bits,
+        signed: is_signed != 0,
+    };
+    let written = writer::write_short(kind, value, format, out);
+    Answer {
+        number: written.number(),
+        value: written.value() as u64,
+    }
+}
 
 // The decimal of a u64 at the end of out: where it starts, or out's length where it has no room and nothing is changed.
 #[no_mangle]

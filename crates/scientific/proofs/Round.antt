@@ -94,16 +94,16 @@ module _ (u : ℕ) (pos : 0 < u) (even : 2 * (u / 2) ≡ u) where
       go (yes k) l = same-block n m h (omega arith)
       go (no k) l = omega (arith, near n .most, near m .least)
 
--- ---- what is computed, by where the rest lies
+-- ---- what is added to the quotient, by where the rest lies
 
-pub above : (u n : ℕ) → u / 2 < n % u → rounded u n ≡ n / u + 1
-unfolding rounded up
-above u n h = rw (lt-ltb (u / 2) (n % u) h, up)
+pub up-above : (h r q : ℕ) → h < r → up h r q ≡ 1
+unfolding up
+up-above h r q l = rw (lt-ltb h r l, up)
 
-pub at-half : (u n : ℕ) → n % u ≡ u / 2 → rounded u n ≡ n / u + n / u % 2
-unfolding rounded up
-at-half u n h = rw (le-ltb (u / 2) (n % u) (omega arith), eq-eqb (n % u) (u / 2) h, up)
+pub up-tie : (h r q : ℕ) → r ≡ h → up h r q ≡ q % 2
+unfolding up
+up-tie h r q e = rw (le-ltb h r (omega arith), eq-eqb r h e, up)
 
-pub under : (u n : ℕ) → n % u < u / 2 → rounded u n ≡ n / u
-unfolding rounded up
-under u n h = rw (le-ltb (u / 2) (n % u) (omega arith), ne-eqb (n % u) (u / 2) (omega arith), up) (omega arith)
+pub up-under : (h r q : ℕ) → r < h → up h r q ≡ 0
+unfolding up
+up-under h r q l = rw (le-ltb h r (omega arith), ne-eqb r h (omega arith), up)

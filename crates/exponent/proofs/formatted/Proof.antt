@@ -34,10 +34,8 @@ returns-2 c =
     let s = c .before .before .before .before .before .before .before .before .before .scale in
     let w = c .before .before .before .encode-exp .ensures in
     let v = c .before .before .before .before .before .encode-coef .ensures in
-    let h = c .before .before .before .before .before .before .before .if1 .left in (
-      rw (s .ensures .is) h,
-      rw (c .before .before .copy .ensures, c .before .zero .ensures, c .copy2 .ensures, w .1, v .1) (texts _ _ _ _ (s .ensures) _ _ _ h (v .0) (w .0)),
-    )
+    let h = c .before .before .before .before .before .before .before .if1 .left in
+    rw (c .before .before .copy .ensures, c .before .zero .ensures, c .copy2 .ensures) (texts _ _ _ _ (s .ensures) _ _ _ _ _ (v .0) (w .0) (v .1) (w .1) (omega arith) h)
 
 pub formatted-spec : {M : Type 1} → statement M
 formatted-spec =

@@ -1,0 +1,2 @@
+-- The C edge's own numbers.
+pub mod Edge

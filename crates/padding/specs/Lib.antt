@@ -1,0 +1,2 @@
+-- What stands around the digits: sign, prefix and padding.
+pub mod Padding

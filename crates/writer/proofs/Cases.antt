@@ -1,0 +1,221 @@
+-- Which way each test of the definitions went, and a text that is laid out in a buffer.
+-- Assumes nothing.
+use mathlib.Core.Bool.{Bool, true, false}
+use mathlib.Core.List.{List, _++_}
+use mathlib.Core.Option.{Option}
+use mathlib.Core.Path.{_≡_, refl, sym, ap, _∙_}
+use Prim.Native.Nat.{ℕ, _+_, _-_, _^_, _≤_, _<_}
+use native.Mathlib.Omega.{arith}
+use native.Mathlib.Nat.{lt-of-lt-of-le}
+use lib.Dec.{eqb, leb, lit<, lit≤}
+use borrow.Author.Tests.{eqb-true, ne-eqb, leb-true, le-leb, lt-leb}
+use lib.IntN.{ℤ, natAbs}
+use lib.ListN.{length, replicate, length-append, length-replicate}
+use Rattle.buffer.specs.AtEnd.{ended, begun}
+use Rattle.buffer.proofs.AtEnd.{ended-on, ended-whole}
+use Rattle.digits.specs.Text.{ascii, decimal}
+use Rattle.digits.proofs.Text.{text-most}
+use Rattle.exponent.specs.Coefficient.{precisionOf}
+use Rattle.exponent.specs.Form.{Texts, Answers}
+use Rattle.exponent.specs.declared.Shown.{Shown}
+use Rattle.exponent.specs.declared.Shown.the-variants as shown
+use Rattle.parts.specs.Parts as Parts
+use Rattle.parts.specs.Parts.{Inside, trueLength, partsOf}
+use Rattle.parts.specs.declared.Formatted.{Formatted}
+use Rattle.kinds.specs.Kinds.{known, inType, meaning, negative, pattern, splitOf}
+use Rattle.kinds.specs.declared.Split.{Split}
+use Rattle.padding.specs.Padding.{signOf, prefixOf}
+use Rattle.padding.specs.declared.Pad.{Pad}
+use Rattle.padding.proofs.Padding.{padded-is, padded-length, planned-sum}
+use Rattle.radix.specs.Radix.{lower, upper, radix}
+use Rattle.scientific.specs.Layout.{expText}
+use Rattle.scientific.specs.Sci.{sci}
+use Rattle.writer.specs.Promise.{Laid, optionsKnown, fitted, exponentAnswer, answerOf, answer, Writes}
+use Rattle.writer.specs.Text.{letterOf, framed, plain, textOf}
+use Rattle.writer.specs.declared.Options.{Options}
+use Rattle.writer.specs.declared.Written.the-variants.{Done, TypeRefused, ValueRefused, OptionsRefused, ExponentRefused, NoRoom}
+use Rattle.writer.specs.declared.Written.{Written}
+
+pub plain-decimal : (format n : ℕ) → format ≡ 0 → plain format n ≡ decimal n
+plain-decimal format n e = ap (λ (f : ℕ). plain f n) e
+
+pub plain-radix : (format n : ℕ) → (format ≡ 0 → ⊥) → plain format n ≡ radix format n
+plain-radix format n h = rw (ne-eqb format 0 h)
+
+-- no plain form of a 64-bit number is longer than its binary
+pub plain-few : (format n : ℕ) → n < 2 ^ 64 → length (plain format n) ≤ 64
+plain-few format n h = go (eqb format 0) (eqb format 1) (eqb format 2) (eqb format 3) refl refl refl refl
+  where
+    go : (a b c d : Bool) → eqb format 0 ≡ a → eqb format 1 ≡ b → eqb format 2 ≡ c → eqb format 3 ≡ d → length (plain format n) ≤ 64
+    go true b c d e f g i = rw e (text-most ascii 10 (lit< tt) 64 n (lit< tt) (lt-of-lt-of-le h (lit≤ tt)))
+    go false true c d e f g i = rw (e, f) (text-most lower 2 (lit< tt) 64 n (lit< tt) h)
+    go false false true d e f g i = rw (e, f, g) (text-most lower 8 (lit< tt) 64 n (lit< tt) (lt-of-lt-of-le h (lit≤ tt)))
+    go false false false true e f g i = rw (e, f, g, i) (text-most lower 16 (lit< tt) 64 n (lit< tt) (lt-of-lt-of-le h (lit≤ tt)))
+    go false false false false e f g i = rw (e, f, g, i) (text-most upper 16 (lit< tt) 64 n (lit< tt) (lt-of-lt-of-le h (lit≤ tt)))
+
+-- ---- a text that is laid out
+
+module _ (o : Options) (negative : Bool) (format : ℕ) (digits : List ℕ) (pad : Pad) (need : ℕ) (L : Laid o negative format digits pad need) where
+  abbrev front : List ℕ
+  front = replicate (pad .before) (o .fill) ++ (signOf negative (o .plus) ++ (prefixOf (o .alternate) format ++ replicate (pad .zeros) 48))
+
+  -- the whole length, by its pieces
+  pub need-is : need ≡ (pad .before + (length (signOf negative (o .plus)) + (length (prefixOf (o .alternate) format) + pad .zeros))) + (length digits + pad .behind)
+  need-is = L .whole ∙ padded-length (o .zero) (o .fill) (o .align) (o .width) (signOf negative (o .plus)) (prefixOf (o .alternate) format) digits (L .planned)
+
+  pub no-room : (l : List ℕ) → length l < need → Writes (framed o negative format digits) (fitted (framed o negative format digits) (length l)) l (NoRoom need) l
+  no-room l h =
+      let t = framed o negative format digits in
+      let f : fitted t (length l) ≡ NoRoom (length t) = rw (lt-leb (length t) (length l) (omega (arith, L .whole))) in
+      rw f (record { answers = ap NoRoom (L .whole); leaves = refl })
+
+  -- behind, digits and front, each just before what is behind it
+  pub in-room : (l l₁ l₂ l₃ : List ℕ) (at : ℕ) → need ≤ length l
+      → l₁ ≡ ended l need (replicate (pad .behind) (o .fill))
+      → l₂ ≡ ended l₁ (need - pad .behind) digits
+      → at ≡ (need - pad .behind) - length digits
+      → l₃ ≡ ended l₂ at front
+      → Writes (framed o negative format digits) (fitted (framed o negative format digits) (length l)) l (Done need) l₃
+  in-room l l₁ l₂ l₃ at h e₁ e₂ i e₃ =
+      let t = framed o negative format digits in
+      let back = replicate (pad .behind) (o .fill) in
+      let nb = length-replicate (pad .behind) (o .fill) in
+      let nz = length-replicate {A = ℕ} (pad .zeros) 48 in
+      let nf = length-replicate (pad .before) (o .fill) in
+      let nd = length-append digits back in
+      let np = length-append (prefixOf (o .alternate) format) (replicate {A = ℕ} (pad .zeros) 48) in
+      let ns = length-append (signOf negative (o .plus)) (prefixOf (o .alternate) format ++ replicate {A = ℕ} (pad .zeros) 48) in
+      let na = length-append (replicate (pad .before) (o .fill)) (signOf negative (o .plus) ++ (prefixOf (o .alternate) format ++ replicate {A = ℕ} (pad .zeros) 48)) in
+      let n = need-is in
+      let s₂ = ended-on l need back digits e₁ e₂ (omega arith) (omega arith) h in
+      let s₃ = ended-on l need (digits ++ back) front s₂ e₃ (omega arith) (omega arith) h in
+      let w : front ++ (digits ++ back) ≡ t = sym (padded-is (o .zero) (o .fill) (o .align) (o .width) (signOf negative (o .plus)) (prefixOf (o .alternate) format) digits (L .planned)) in
+      let f : fitted t (length l) ≡ Done (length t) = rw (le-leb (length t) (length l) (omega (arith, L .whole))) in
+      rw f (record { answers = ap Done (L .whole); leaves = s₃ ∙ rw (w, L .whole) (ended-whole l t) })
+
+-- ---- the whole text and the one answer, by the form
+
+module _ (bits : ℕ) (z : ℤ) (format : ℕ) (o : Options) (room : ℕ) where
+  pub options-refused : optionsKnown format o ≡ false → answerOf bits z format o room ≡ OptionsRefused
+  unfolding answerOf
+  options-refused h = rw h
+
+  module _ (k : optionsKnown format o ≡ true) where
+    pub decimal-text : format ≡ 0 → textOf bits z format o ≡ framed o (negative z) format (plain format (natAbs z))
+    unfolding textOf
+    decimal-text e = rw e
+
+    pub decimal-answer : format ≡ 0 → answerOf bits z format o room ≡ fitted (textOf bits z format o) room
+    unfolding answerOf
+    decimal-answer e = rw (k, le-leb format 4 (omega arith))
+
+    pub radix-text : (format ≡ 0 → ⊥) → format ≤ 4 → textOf bits z format o ≡ framed o false format (plain format (pattern bits z))
+    unfolding textOf
+    radix-text h l = rw (ne-eqb format 0 h, le-leb format 4 l)
+
+    pub radix-answer : format ≤ 4 → answerOf bits z format o room ≡ fitted (textOf bits z format o) room
+    unfolding answerOf
+    radix-answer l = rw (k, le-leb format 4 l)
+
+    pub exponent-text : 4 < format → textOf bits z format o ≡ framed o (negative z) format (expText (letterOf format) (precisionOf (o .precision)) (natAbs z))
+    unfolding textOf
+    exponent-text l = rw (ne-eqb format 0 (λ e. omega arith), lt-leb format 4 l)
+
+    pub exponent-answer : 4 < format → answerOf bits z format o room ≡ exponentAnswer o (negative z) format (natAbs z) room
+    unfolding answerOf
+    exponent-answer l = rw (k, lt-leb format 4 l, exponent-text l)
+
+    -- from what the layers below were given, to the value
+    module _ (s : Split) (e : s ≡ splitOf z) where
+      sign : s .negative ≡ negative z
+      sign = ap (λ (x : Split). x .negative) e
+
+      size : s .magnitude ≡ natAbs z
+      size = ap (λ (x : Split). x .magnitude) e
+
+      pub decimal-writes : (l : List ℕ) (r : Written) (l′ : List ℕ) → length l ≡ room → format ≡ 0
+          → Writes (framed o (s .negative) format (plain format (s .magnitude))) (fitted (framed o (s .negative) format (plain format (s .magnitude))) (length l)) l r l′
+          → Writes (textOf bits z format o) (answerOf bits z format o room) l r l′
+      decimal-writes l r l′ i f W = rw (decimal-answer f, decimal-text f, ← i, ← sign, ← size) W
+
+      pub exponent-writes : (l : List ℕ) (r : Written) (l′ : List ℕ) → length l ≡ room → 4 < format
+          → Writes (framed o (s .negative) format (expText (letterOf format) (precisionOf (o .precision)) (s .magnitude))) (exponentAnswer o (s .negative) format (s .magnitude) (length l)) l r l′
+          → Writes (textOf bits z format o) (answerOf bits z format o room) l r l′
+      exponent-writes l r l′ i f W = rw (exponent-answer f, exponent-text f, ← i, ← sign, ← size) W
+
+    pub radix-writes : (n : ℕ) → n ≡ pattern bits z → (l : List ℕ) (r : Written) (l′ : List ℕ) → length l ≡ room → (format ≡ 0 → ⊥) → format ≤ 4
+        → Writes (framed o false format (plain format n)) (fitted (framed o false format (plain format n)) (length l)) l r l′
+        → Writes (textOf bits z format o) (answerOf bits z format o room) l r l′
+    radix-writes n e l r l′ i f h W = rw (radix-answer h, radix-text f h, ← i, ← e) W
+
+-- the fill is one byte
+pub fill-known : (format : ℕ) (o : Options) → optionsKnown format o ≡ true → o .fill ≤ 126
+fill-known format o h = go (leb format 6) (leb (o .align) 3) (leb 32 (o .fill)) (leb (o .fill) 126) refl refl refl refl
+  where
+    go : (a b c d : Bool) → leb format 6 ≡ a → leb (o .align) 3 ≡ b → leb 32 (o .fill) ≡ c → leb (o .fill) 126 ≡ d → o .fill ≤ 126
+    go a b c true e f g i = leb-true (o .fill) 126 i
+    go true true true false e f g i = absurd (let t : _≡_ {A = Bool} false true = rw (e, f, g, i) at h in let z : _≡_ {A = ℕ} 0 1 = cc in omega arith)
+    go true true false false e f g i = absurd (let t : _≡_ {A = Bool} false true = rw (e, f, g) at h in let z : _≡_ {A = ℕ} 0 1 = cc in omega arith)
+    go true false c false e f g i = absurd (let t : _≡_ {A = Bool} false true = rw (e, f) at h in let z : _≡_ {A = ℕ} 0 1 = cc in omega arith)
+    go false b c false e f g i = absurd (let t : _≡_ {A = Bool} false true = rw e at h in let z : _≡_ {A = ℕ} 0 1 = cc in omega arith)
+
+-- a type has 1 to 64 bits
+pub known-range : (bits : ℕ) → known bits ≡ true → (1 ≤ bits) × (bits ≤ 64)
+known-range bits h = go (eqb bits 8) (eqb bits 16) (eqb bits 32) (eqb bits 64) refl refl refl refl
+  where
+    go : (a b c d : Bool) → eqb bits 8 ≡ a → eqb bits 16 ≡ b → eqb bits 32 ≡ c → eqb bits 64 ≡ d → (1 ≤ bits) × (bits ≤ 64)
+    go true b c d e f g i = (omega (arith, eqb-true bits 8 e), omega (arith, eqb-true bits 8 e))
+    go false true c d e f g i = (omega (arith, eqb-true bits 16 f), omega (arith, eqb-true bits 16 f))
+    go false false true d e f g i = (omega (arith, eqb-true bits 32 g), omega (arith, eqb-true bits 32 g))
+    go false false false true e f g i = (omega (arith, eqb-true bits 64 i), omega (arith, eqb-true bits 64 i))
+    go false false false false e f g i = absurd (let t : _≡_ {A = Bool} false true = rw (e, f, g, i) at h in let z : _≡_ {A = ℕ} 0 1 = cc in omega arith)
+
+-- ---- the answer to an exponent form
+
+module _ (o : Options) (negative : Bool) (format n : ℕ) where
+  pub exponent-refused : (l : List ℕ) → 99 < sci (precisionOf (o .precision)) n .expo
+      → Writes (framed o negative format (expText (letterOf format) (precisionOf (o .precision)) n)) (exponentAnswer o negative format n (length l)) l ExponentRefused l
+  exponent-refused l h = rw (lt-leb (sci (precisionOf (o .precision)) n .expo) 99 h) (record { answers = refl; leaves = refl })
+
+  pub exponent-kept : (l : List ℕ) (r : Written) (l′ : List ℕ) → sci (precisionOf (o .precision)) n .expo ≤ 99
+      → Writes (framed o negative format (expText (letterOf format) (precisionOf (o .precision)) n)) (fitted (framed o negative format (expText (letterOf format) (precisionOf (o .precision)) n)) (length l)) l r l′
+      → Writes (framed o negative format (expText (letterOf format) (precisionOf (o .precision)) n)) (exponentAnswer o negative format n (length l)) l r l′
+  exponent-kept l r l′ h W = rw (le-leb (sci (precisionOf (o .precision)) n .expo) 99 h) W
+
+-- what the parts of an exponent form are, whatever its sign code is called
+pub record Digits (letter : ℕ) (p : Option ℕ) (n : ℕ) (src : List ℕ) (f : Formatted) : Type 0 where
+  pub kept : sci p n .expo ≤ 99
+  pub source : length src ≡ 24
+  pub inside : Inside (length src) (partsOf f)
+  pub text : Parts.textOf (f .sign) src (partsOf f) ≡ expText letter p n
+  pub size : trueLength (f .sign) (partsOf f) ≡ length (expText letter p n)
+  pub few : length (expText letter p n) < 2 ^ 17
+
+pub digits-of : (letter letter′ : ℕ) (p : Option ℕ) (n : ℕ) (src : List ℕ) (f : Formatted) (r : Shown) → letter′ ≡ letter → r ≡ shown.Parts f → Answers letter′ p n src r → Digits letter p n src f
+digits-of letter letter′ p n src f r i e A =
+    let T : Texts letter p n src f = rw (e, i) at A in
+    record { kept = T .expo; source = T .source; inside = T .inside; text = rw (T .sign) (T .text); size = rw (T .sign) (T .size); few = T .few }
+
+pub refused-of : (letter : ℕ) (p : Option ℕ) (n : ℕ) (src : List ℕ) (r : Shown) → r ≡ shown.ExponentRefused → Answers letter p n src r → 99 < sci p n .expo
+refused-of letter p n src r e A = rw e at A
+
+-- ---- a type and a value that are judged first
+
+module _ (signed : Bool) (bits p format : ℕ) (o : Options) (l : List ℕ) where
+  pub type-refused : known bits ≡ false → Writes (textOf bits (meaning 64 signed p) format o) (answer signed bits p format o (length l)) l TypeRefused l
+  unfolding answer
+  type-refused h = rw h (record { answers = refl; leaves = refl })
+
+  pub value-refused : known bits ≡ true → inType signed bits (meaning 64 signed p) ≡ false → Writes (textOf bits (meaning 64 signed p) format o) (answer signed bits p format o (length l)) l ValueRefused l
+  unfolding answer
+  value-refused h g = rw (h, g) (record { answers = refl; leaves = refl })
+
+  pub judged : known bits ≡ true → inType signed bits (meaning 64 signed p) ≡ true → (r : Written) (l′ : List ℕ)
+      → Writes (textOf bits (meaning 64 signed p) format o) (answerOf bits (meaning 64 signed p) format o (length l)) l r l′
+      → Writes (textOf bits (meaning 64 signed p) format o) (answer signed bits p format o (length l)) l r l′
+  unfolding answer
+  judged h g r l′ W = rw (h, g) W
+
+-- one answer meets a promise, and it leaves one buffer
+pub one-answer : {t : List ℕ} {a : Written} {l : List ℕ} {r s : Written} {m n : List ℕ} → Writes t a l r m → Writes t a l s n → (r ≡ s) × (m ≡ n)
+one-answer p q = (p .answers ∙ sym (q .answers), p .leaves ∙ sym (q .leaves))
