@@ -48,7 +48,7 @@ pub fn run(report: &mut Report) {
     });
     report.part("read, each type: random texts with a fault or two", |share, tally| {
         let mut reader = Reader::new(share, tally);
-        for _ in 0..2 * RANDOM_CALLS / SHARES {
+        for _ in 0..RANDOM_CALLS / SHARES {
             reader.spoilt_text();
         }
     });
