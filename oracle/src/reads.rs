@@ -34,6 +34,12 @@ pub fn run(report: &mut Report) {
             reader.round_trip(kind, value, format);
         }
     });
+    report.part("read, each type: the limits and numbers beyond", |share, tally| {
+        let mut reader = Reader::new(share, tally);
+        for (format, text) in texts::of_limits().into_iter().skip(share as usize).step_by(SHARES as usize) {
+            Kind::ALL.into_iter().for_each(|kind| reader.call(kind, format, text.as_bytes()));
+        }
+    });
     report.part("read, each type: every text of up to two bytes", |share, tally| {
         let mut reader = Reader::new(share, tally);
         texts::of_bytes(share, |text| reader.in_every_way(text));

@@ -1,7 +1,7 @@
 //! Texts to read: all short ones, and Rust's own with faults put in.
 
 use crate::report::SHARES;
-use crate::values::Random;
+use crate::values::{limits, Random};
 
 const LONGEST_SHORT: u32 = 5;
 
@@ -39,6 +39,21 @@ pub fn of_alphabet(format: u32, share: u64, mut visit: impl FnMut(&[u8])) {
             visit(&text[..length as usize]);
         }
     }
+}
+
+/// Rust's texts of the limits of all types with either sign, and of numbers beyond the largest type, each with its format.
+pub fn of_limits() -> Vec<(u32, String)> {
+    let beyond = (64..100).flat_map(|power| [(1i128 << power) - 1, 1 << power, (1 << power) + 1]);
+    let tens = (19..30).flat_map(|power| [10i128.pow(power) - 1, 10i128.pow(power), 10i128.pow(power) + 1]);
+    let numbers = limits().into_iter().map(i128::from).chain(beyond).chain(tens);
+    let signed = numbers
+        .clone()
+        .flat_map(|number| [number, -number])
+        .flat_map(|number| [(0, format!("{number}")), (5, format!("{number:e}")), (6, format!("{number:E}"))]);
+    let patterns = numbers.flat_map(|number| {
+        [(1, format!("{number:b}")), (2, format!("{number:o}")), (3, format!("{number:x}")), (4, format!("{number:X}"))]
+    });
+    signed.chain(patterns).collect()
 }
 
 /// Changes, puts in or leaves out a byte, doubles one many times, or turns the text into its neighbour.
