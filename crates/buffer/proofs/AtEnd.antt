@@ -1,12 +1,12 @@
 -- Laws of a text that stands just before an end: written in pieces, in front of another, and at the start.
 -- Assumes nothing.
-use mathlib.Core.Path.{_≡_, refl, sym, ap, _∙_, subst}
-use mathlib.Core.List.{List, [], _∷_, _++_, append-assoc, append-nil}
-use Prim.Native.Nat.{ℕ, zero, suc, _+_, _-_, _≤_, _<_, zero-le}
+use mathlib.Core.Path.{_≡_, refl, sym, _∙_}
+use mathlib.Core.List.{List, [], _∷_, _++_, append-assoc}
+use Prim.Native.Nat.{ℕ, suc, _+_, _-_, _≤_, zero-le}
 use native.Mathlib.Nat.{sub-zero, sub-self}
 use native.Mathlib.Omega.{arith}
 use lib.ListN.{length, getD, take, drop, set, length-append, length-take, length-drop, take-append-drop}
-use lib.Seq.{take-suc, set-at, sets, sets-eq, length-sets, take-append-le, length-take-le, drop-append-add, drop-drop, take-take, drop-at, take-at}
+use lib.Seq.{take-suc, set-at, sets, sets-eq, take-append-le, length-take-le, drop-append-add, drop-drop, take-take, drop-at, take-at}
 use Rattle.buffer.specs.AtEnd.{ended, begun}
 
 -- nothing is left to write

@@ -12,8 +12,8 @@ use Rattle.buffer.proofs.Left.{Left, left-room, left-store}
 use Rattle.digits.specs.Digits.{bare, digits, last}
 use Rattle.digits.specs.Text.{ascii, text, lastText, decimal}
 use Rattle.digits.proofs.Digits.{bare-zero, bare-length-gt, digits-pos, digits-small}
-use Rattle.digits.proofs.Last.{bare-split, last-split, last-mod}
-use Rattle.digits.proofs.Text.{length-lastText}
+use Rattle.digits.proofs.Last.{bare-split}
+use Rattle.digits.proofs.Text.{length-lastText, lastText-mod}
 
 ten : 1 < 10
 ten = lit< tt
@@ -48,17 +48,6 @@ unfolding pending
 pending-none zero h = absurd (h refl)
 pending-none (suc n) h = ap (map ascii) (bare-zero 10 ten)
 
--- ---- digits in pairs
-
--- the last digits of a remainder are those of the number
-pub lastText-mod : (k n : ℕ) → lastText ascii 10 k (n % 10 ^ k) ≡ lastText ascii 10 k n
-unfolding lastText
-lastText-mod k n = ap (map ascii) (last-mod 10 ten k n)
-
-pub lastText-split : (j k n : ℕ) → lastText ascii 10 (j + k) n ≡ lastText ascii 10 j (n / 10 ^ k) ++ lastText ascii 10 k n
-unfolding lastText
-lastText-split j k n = ap (map ascii) (last-split 10 j k n) ∙ map-append ascii (last 10 j (n / 10 ^ k)) (last 10 k n)
-
 -- ---- what the writer keeps from turn to turn
 
 -- remain is left of n, and its text completes the buffer
@@ -79,7 +68,7 @@ module _ {n end : ℕ} {buf₀ : List ℕ} {remain offset : ℕ} {buf : List ℕ
       let i : o + length (lastText ascii 10 (suc k) remain) ≡ offset = rw (length-lastText ascii 10 (suc k) remain) e in
       record {
         less = le-trans (div-le-self remain (10 ^ suc k)) (R .less);
-        left = rw (lastText-mod (suc k) remain) (left-store (R .left) (pending n (remain / 10 ^ suc k)) (lastText ascii 10 (suc k) remain) o (pending-split k n remain (R .less) more) i);
+        left = rw (lastText-mod ascii 10 ten (suc k) remain) (left-store (R .left) (pending n (remain / 10 ^ suc k)) (lastText ascii 10 (suc k) remain) o (pending-split k n remain (R .less) more) i);
       }
 
 -- one run of stores after another

@@ -1,10 +1,10 @@
 -- Laws of the digits of a natural, for any base above 1: step and append, length, value, uniqueness.
 -- Assumes nothing.
-use mathlib.Core.Path.{_≡_, refl, sym, ap, _∙_, subst}
-use mathlib.Core.List.{List, [], _∷_, _++_, map, append-assoc, append-nil}
+use mathlib.Core.Path.{_≡_, refl, sym, ap, _∙_}
+use mathlib.Core.List.{List, [], _∷_, _++_, append-assoc, append-nil}
 use mathlib.Core.Logic.{⊎-elim}
 use Prim.Native.Nat.{ℕ, zero, suc, _+_, _*_, _/_, _%_, _≤_, _<_, _^_, zero-le, suc-le-suc}
-use native.Mathlib.Nat.{le-of-suc-le-suc, not-suc-le-zero, div-lt-self, zero-lt-suc, le-trans, le-refl, zero-div, div-add-mod', lt-of-lt-of-le, mod-lt, pow-suc, pow-zero, div-lt-iff-lt-mul, le-div-iff-mul-le, eq-zero-or-pos, div-eq-of-lt, mod-eq-of-lt, mul-pos, le-add-right, one-le-pow, add-zero, add-suc, zero-mul, zero-add}
+use native.Mathlib.Nat.{le-of-suc-le-suc, not-suc-le-zero, div-lt-self, zero-lt-suc, le-trans, le-refl, div-add-mod', lt-of-lt-of-le, mod-lt, pow-suc, pow-zero, div-lt-iff-lt-mul, le-div-iff-mul-le, eq-zero-or-pos, div-eq-of-lt, mod-eq-of-lt, mul-pos, le-add-right, one-le-pow, zero-mul, zero-add}
 use native.Mathlib.Numerals.{add-one}
 use native.Mathlib.Omega.{arith}
 use lib.ListN.{length, getD, length-append, List·getD-append}

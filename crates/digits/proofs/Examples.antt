@@ -3,7 +3,7 @@
 use mathlib.Core.Path.{_≡_, refl}
 use mathlib.Core.List.{[], _∷_}
 use Prim.Native.Nat.{_-_, _^_}
-use lib.IntN.{pos, negsuc}
+use lib.IntN.{negsuc}
 use lib.ListN.{length}
 use Rattle.digits.specs.Digits.{upTo, bare, digits, last}
 use Rattle.digits.specs.Text.{text, decimal, signed}

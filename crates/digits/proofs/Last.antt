@@ -5,10 +5,9 @@ use mathlib.Core.List.{List, [], _∷_, _++_, append-assoc, append-nil}
 use mathlib.Core.Logic.{⊎-elim}
 use Prim.Native.Nat.{ℕ, zero, suc, _+_, _*_, _/_, _%_, _≤_, _<_, _^_}
 use native.Mathlib.Nat.{zero-add, suc-add, zero-mul, mul-comm, pow-zero, pow-suc, pow-succ', div-one, div-div-eq-div-mul, mod-lt, mod-one, one-le-pow, eq-zero-or-pos, zero-div, zero-mod, mul-mod-left, mul-div-cancel, le-div-iff-mul-le}
-use native.Mathlib.Numerals.{add-one}
 use native.Mathlib.Omega.{arith}
 use lib.Arith.{digits-lt, digits-div, digits-mod, mod-mul}
-use lib.ListN.{length, replicate, length-append}
+use lib.ListN.{length, replicate}
 use lib.Pow.{pow-add}
 use Rattle.digits.specs.Digits.{bare, digits, last, valueFrom, value, Below}
 use Rattle.digits.proofs.Digits.{bare-zero, bare-step, bare-length, bare-length-gt, digits-pos, digits-value, digits-below, value-snoc}

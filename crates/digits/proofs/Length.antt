@@ -1,6 +1,6 @@
 -- How many digits a natural has, for any base above 1: exactly, as a test, and in order.
 -- Assumes nothing.
-use mathlib.Core.Path.{_≡_, refl, sym}
+use mathlib.Core.Path.{_≡_, refl}
 use mathlib.Core.Bool.{Bool, true, false}
 use Prim.Native.Nat.{ℕ, suc, _^_, _-_, _≤_, _<_}
 use native.Mathlib.Nat.{pow-zero}

@@ -1,7 +1,7 @@
--- The rules of the tables (document 01, "Digits"): digit pairs, and powers of ten.
+-- The rule of a table, and that of the digit pairs (document 01, "Digits").
 use mathlib.Core.Bool.{cond}
 use mathlib.Core.List.{List, [], _∷_}
-use Prim.Native.Nat.{ℕ, zero, suc, _+_, _/_, _%_, _^_}
+use Prim.Native.Nat.{ℕ, zero, suc, _+_, _/_, _%_}
 use lib.Dec.{eqb}
 
 -- f at n places from i on.
@@ -15,7 +15,3 @@ pairByte i = cond (eqb (i % 2) 0) (48 + i / 2 / 10) (48 + i / 2 % 10)
 
 unfoldable pub pairTable : List ℕ
 pairTable = tabulate 200 pairByte 0
-
--- 10 ^ 0 to 10 ^ 19.
-unfoldable pub powerTable : List ℕ
-powerTable = tabulate 20 (λ k. 10 ^ k) 0

@@ -1,5 +1,5 @@
 -- Digits as bytes: the text of a natural in a base by an alphabet, the decimal text of a natural and of a whole number.
-use mathlib.Core.List.{List, [], _∷_, map}
+use mathlib.Core.List.{List, _∷_, map}
 use Prim.Native.Nat.{ℕ, suc, _+_}
 use lib.IntN.{ℤ, pos, negsuc}
 use Rattle.digits.specs.Digits.{digits, last}

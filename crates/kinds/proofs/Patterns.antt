@@ -9,14 +9,13 @@ use native.Mathlib.Nat.{mod-eq-of-lt, pow-suc, one-mul}
 use native.Mathlib.Omega.{arith}
 use borrow.Author.Tests.{ltb-true, ltb-false, lt-ltb, le-ltb, ne-eqb}
 use lib.Dec.{ltb}
-use lib.IntN.{ℤ, pos, negsuc, natAbs}
+use lib.IntN.{ℤ, pos, negsuc}
 use lib.Signed.{mag}
 use lib.Pow.{pow-lt, pow-mono, pow-pos, not-mod}
 use Rattle.kinds.specs.Kinds.{known, inType, pattern, reading, meaning, splitOf}
-use Rattle.kinds.specs.declared.Split.{Split}
 
 -- two times half of the numbers of so many bits are all of them
-halves : (b : ℕ) → 1 ≤ b → 2 ^ b ≡ 2 ^ (b - 1) * 2
+pub halves : (b : ℕ) → 1 ≤ b → 2 ^ b ≡ 2 ^ (b - 1) * 2
 halves b h = let e : suc (b - 1) ≡ b = omega arith in sym (ap (λ (k : ℕ). 2 ^ k) e) ∙ pow-suc 2 (b - 1)
 
 -- which way a pattern is read

@@ -1,15 +1,15 @@
 -- The greatest decimal length of a type, once over the bits.
 -- Assumes nothing.
 use mathlib.Core.Bool.{true, false}
-use mathlib.Core.Path.{_≡_, refl, ap}
-use Prim.Native.Nat.{ℕ, suc, _-_, _^_, _≤_, _<_}
+use mathlib.Core.Path.{_≡_, refl}
+use Prim.Native.Nat.{ℕ, suc, _-_, _^_, _≤_}
 use native.Mathlib.Omega.{arith}
 use borrow.Author.Tests.{ltb-true, lt-ltb, ne-eqb}
 use lib.Dec.{lit<}
 use lib.IntN.{ℤ, pos, negsuc}
 use lib.ListN.{length}
 use lib.Pow.{pow-pos}
-use Rattle.digits.specs.Text.{ascii, text, decimal, signed}
+use Rattle.digits.specs.Text.{ascii, decimal, signed}
 use Rattle.digits.proofs.Text.{text-mono}
 use Rattle.kinds.specs.Kinds.{known, inType, Greatest}
 

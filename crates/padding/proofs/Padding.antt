@@ -11,7 +11,7 @@ use lib.Dec.{eqb}
 use lib.ListN.{length, set, replicate, length-append, length-replicate}
 use Rattle.buffer.specs.AtEnd.{ended}
 use Rattle.buffer.proofs.AtEnd.{ended-done, ended-sets}
-use Rattle.padding.specs.Padding.{Planned, beforeOf, signOf, prefixOf, padded}
+use Rattle.padding.specs.Padding.{Planned, signOf, prefixOf, padded}
 
 -- ---- the padding of k bytes
 
@@ -38,19 +38,6 @@ module _ (pad : Bool) (align k : ℕ) (e : pad ≡ false) where
   plan-right a b =
       let s : 0 ≡ k - k = omega arith in
       rw e (record { before-is = rw (ne-eqb align 1 a, ne-eqb align 2 b); zeros-is = refl; behind-is = rw (ne-eqb align 1 a, ne-eqb align 2 b) s })
-
-before-le : (align k : ℕ) → beforeOf false align k ≤ k
-before-le align k = go (eqb align 1) (eqb align 2) refl refl
-  where
-    go : (s t : Bool) → eqb align 1 ≡ s → eqb align 2 ≡ t → beforeOf false align k ≤ k
-    go true t f g = rw f (omega arith)
-    go false true f g = rw (f, g) (omega arith)
-    go false false f g = rw (f, g) (omega arith)
-
--- all k bytes are somewhere
-pub planned-sum : (pad : Bool) (align k : ℕ) {before zeros behind : ℕ} → Planned pad align k before zeros behind → before + (zeros + behind) ≡ k
-planned-sum true align k P = omega (arith, P .before-is, P .zeros-is, P .behind-is)
-planned-sum false align k P = omega (arith, P .before-is, P .zeros-is, P .behind-is, before-le align k)
 
 -- ---- the sign and the prefix
 

@@ -196,7 +196,7 @@ fn sign_length(sign: u32) -> u64
 }
 
 // The sign just before end.
-fn write_sign(sign: u32, out: &mut [u8], end: usize) -> usize
+pub fn write_sign(sign: u32, out: &mut [u8], end: usize) -> usize
     requires { ⌜ (length (signText sign) ≤ end) × (end ≤ length (now out)) ⌝ }
     ensures { λ r. ⌜ (r ≡ end - length (signText sign)) × (now (out .exit) ≡ ended (now (out .entry)) end (signText sign)) ⌝ }
 {

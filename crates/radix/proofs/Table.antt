@@ -12,7 +12,7 @@ use Rattle.digits.proofs.Tables.{tabulated}
 use Rattle.radix.specs.Radix.{tableByte}
 
 module _ (α β : ℕ → ℕ) (b : ℕ) (same : (d : ℕ) → d < b → α d ≡ β d) where
-  map-same : (ds : List ℕ) → Below b ds → map α ds ≡ map β ds
+  pub map-same : (ds : List ℕ) → Below b ds → map α ds ≡ map β ds
   unfolding Below
   map-same [] h = refl
   map-same (d ∷ ds) h = ap₂ (λ (x : ℕ) (l : List ℕ). x ∷ l) (same d (h .0)) (map-same ds (h .1))

@@ -12,16 +12,10 @@ use lib.Pow.{pow-add}
 use Rattle.digits.specs.Digits.{digits, last}
 use Rattle.digits.specs.Text.{ascii, text, lastText, decimal}
 use Rattle.digits.proofs.Text.{lastText-zeros}
-use Rattle.scientific.specs.Sci.{Sci, exponentOf, sci}
+use Rattle.scientific.specs.Sci.{exponentOf, sci}
 use Rattle.scientific.specs.Layout.{point, layout, expText}
 use Rattle.scientific.proofs.Tens as T
 use Rattle.scientific.proofs.Fixed.{fixed-long}
-
--- every digit of the coefficient is in hand
-pub layout-apart : (letter : ℕ) (s : Sci) → layout letter s
-    ≡ (ascii (s .coef / 10 ^ s .frac) ∷ point (s .frac) ++ lastText ascii 10 (s .frac) (s .coef)) ++ letter ∷ decimal (s .expo)
-unfolding layout
-layout-apart letter s = simp append-assoc
 
 -- the digits of m are in hand, f of them behind the point, and z zeros follow
 pub layout-zeros : (letter m f z k : ℕ) → layout letter (record { coef = m * 10 ^ z; frac = f + z; expo = k })

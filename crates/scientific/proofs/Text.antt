@@ -84,7 +84,7 @@ run letter h (x ∷ a) (y ∷ b) c d p q e =
     let z : x ≡ y = omega arith in
     ((cc), r .1)
 
-run-fraction : (letter : ℕ) → 57 < letter → (a b c d : List ℕ) → Below 10 a → Below 10 b → fraction a ++ letter ∷ c ≡ fraction b ++ letter ∷ d → (a ≡ b) × (c ≡ d)
+pub run-fraction : (letter : ℕ) → 57 < letter → (a b c d : List ℕ) → Below 10 a → Below 10 b → fraction a ++ letter ∷ c ≡ fraction b ++ letter ∷ d → (a ≡ b) × (c ≡ d)
 unfolding fraction
 run-fraction letter h [] [] c d p q e = (refl, (cc))
 run-fraction letter h [] (y ∷ b) c d p q e = absurd (let z : letter ≡ 46 = cc in omega arith)

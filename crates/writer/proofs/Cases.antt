@@ -11,7 +11,7 @@ use lib.Dec.{eqb, leb, lit<, lit≤}
 use borrow.Author.Tests.{eqb-true, ne-eqb, leb-true, le-leb, lt-leb}
 use lib.IntN.{ℤ, natAbs}
 use lib.ListN.{length, replicate, length-append, length-replicate}
-use Rattle.buffer.specs.AtEnd.{ended, begun}
+use Rattle.buffer.specs.AtEnd.{ended}
 use Rattle.buffer.proofs.AtEnd.{ended-on, ended-whole}
 use Rattle.digits.specs.Text.{ascii, decimal}
 use Rattle.digits.proofs.Text.{text-most}
@@ -26,8 +26,9 @@ use Rattle.kinds.specs.Kinds.{known, inType, meaning, negative, pattern, splitO
 use Rattle.kinds.specs.declared.Split.{Split}
 use Rattle.padding.specs.Padding.{signOf, prefixOf}
 use Rattle.padding.specs.declared.Pad.{Pad}
-use Rattle.padding.proofs.Padding.{padded-is, padded-length, planned-sum}
-use Rattle.radix.specs.Radix.{lower, upper, radix}
+use Rattle.padding.proofs.Padding.{padded-is, padded-length}
+use Rattle.radix.specs.Radix.{radix}
+use Rattle.radix.proofs.Lengths.{radix-most}
 use Rattle.scientific.specs.Layout.{expText}
 use Rattle.scientific.specs.Sci.{sci}
 use Rattle.writer.specs.Promise.{Laid, optionsKnown, fitted, exponentAnswer, answerOf, answer, Writes}
@@ -44,14 +45,11 @@ plain-radix format n h = rw (ne-eqb format 0 h)
 
 -- no plain form of a 64-bit number is longer than its binary
 pub plain-few : (format n : ℕ) → n < 2 ^ 64 → length (plain format n) ≤ 64
-plain-few format n h = go (eqb format 0) (eqb format 1) (eqb format 2) (eqb format 3) refl refl refl refl
+plain-few format n h = go (eqb format 0) refl
   where
-    go : (a b c d : Bool) → eqb format 0 ≡ a → eqb format 1 ≡ b → eqb format 2 ≡ c → eqb format 3 ≡ d → length (plain format n) ≤ 64
-    go true b c d e f g i = rw e (text-most ascii 10 (lit< tt) 64 n (lit< tt) (lt-of-lt-of-le h (lit≤ tt)))
-    go false true c d e f g i = rw (e, f) (text-most lower 2 (lit< tt) 64 n (lit< tt) h)
-    go false false true d e f g i = rw (e, f, g) (text-most lower 8 (lit< tt) 64 n (lit< tt) (lt-of-lt-of-le h (lit≤ tt)))
-    go false false false true e f g i = rw (e, f, g, i) (text-most lower 16 (lit< tt) 64 n (lit< tt) (lt-of-lt-of-le h (lit≤ tt)))
-    go false false false false e f g i = rw (e, f, g, i) (text-most upper 16 (lit< tt) 64 n (lit< tt) (lt-of-lt-of-le h (lit≤ tt)))
+    go : (t : Bool) → eqb format 0 ≡ t → length (plain format n) ≤ 64
+    go true e = rw e (text-most ascii 10 (lit< tt) 64 n (lit< tt) (lt-of-lt-of-le h (lit≤ tt)))
+    go false e = rw e (radix-most format 64 n (lit< tt) h)
 
 -- ---- a text that is laid out
 

@@ -1,5 +1,5 @@
 -- The text of a value by format and options (document 01, "Digits", "Exponent", "Sign and prefix", "Padding"): one definition, over the bits and all whole numbers.
-use mathlib.Core.Bool.{Bool, true, false, cond}
+use mathlib.Core.Bool.{Bool, false, cond}
 use mathlib.Core.List.{List}
 use mathlib.Core.Option.{Option}
 use Prim.Native.Nat.{ℕ}

@@ -6,7 +6,6 @@ ghost use mathlib.Core.List.{List};
 ghost use Prim.Native.Nat.{ℕ, _-_, _≤_};
 ghost use lib.ListN.{length};
 ghost use Rattle.buffer.specs.AtEnd.{ended};
-ghost use Rattle.digits.specs.Text.{decimal};
 ghost use Rattle.kinds.specs.Kinds.{known, inType, meaning};
 ghost use lib.IntN.{pos};
 ghost use Rattle.exponent.specs.Coefficient.{precisionOf};

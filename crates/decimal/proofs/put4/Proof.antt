@@ -1,12 +1,12 @@
 -- `decimal::put4` meets its contract: four digits are two pairs. Assumes nothing.
 use mathlib.Core.Path.{_≡_, ap, _∙_}
-use mathlib.Core.List.{List, _++_}
+use mathlib.Core.List.{_++_}
 use Prim.Native.Nat.{ℕ, _+_, _/_, _%_}
-use lib.ListN.{length}
+use lib.Dec.{lit<}
 use lib.Seq.{sets}
 use Rattle.digits.specs.Text.{ascii, lastText}
-use Rattle.digits.proofs.Text.{length-lastText}
-use Rattle.decimal.proofs.Pending.{lastText-split, lastText-mod, sets-append}
+use Rattle.digits.proofs.Text.{length-lastText, lastText-split, lastText-mod}
+use Rattle.decimal.proofs.Pending.{sets-append}
 use borrow.Author.Needs.{needs}
 use Rattle.decimal.proofs.put4.Statement.{statement}
 use Rattle.decimal.proofs.put4.Tie as tie
@@ -30,8 +30,8 @@ returns c =
     let at = s .args .at in
     let l = s .args .buf .now in
     let front = lastText ascii 10 2 (k / 100) in
-    let a : lastText ascii 10 4 k ≡ front ++ lastText ascii 10 2 k = lastText-split 2 2 k in
-    let m : lastText ascii 10 2 (k % 100) ≡ lastText ascii 10 2 k = lastText-mod 2 k in
+    let a : lastText ascii 10 4 k ≡ front ++ lastText ascii 10 2 k = lastText-split ascii 10 2 2 k in
+    let m : lastText ascii 10 2 (k % 100) ≡ lastText ascii 10 2 k = lastText-mod ascii 10 (lit< tt) 2 k in
     let b : sets l at (front ++ lastText ascii 10 2 k) ≡ sets (sets l at front) (at + 2) (lastText ascii 10 2 k) =
     sets-append l at front (lastText ascii 10 2 k) ∙ ap (λ (j : ℕ). sets (sets l at front) (at + j) (lastText ascii 10 2 k)) (length-lastText ascii 10 2 (k / 100)) in
     cc

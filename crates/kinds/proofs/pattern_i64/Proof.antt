@@ -1,5 +1,5 @@
 -- `kinds::pattern_i64` meets its contract. Assumes nothing.
-use mathlib.Core.Path.{_≡_, sym, ap, _∙_}
+use mathlib.Core.Path.{sym, ap}
 use native.Mathlib.Omega.{arith}
 use mir.Syntax.{w64}
 use Rattle.kinds.specs.Kinds.{pattern}

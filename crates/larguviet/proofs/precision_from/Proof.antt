@@ -1,5 +1,4 @@
 -- `larguviet::precision_from` meets its contract. Assumes nothing.
-use mathlib.Core.Path.{sym}
 use borrow.Author.Tests.{eq-eqb, ne-eqb}
 use Rattle.larguviet.proofs.precision_from.Statement.{statement}
 use Rattle.larguviet.proofs.precision_from.Tie as tie

@@ -1,6 +1,5 @@
 -- `padding::plan` meets its contract. Assumes nothing.
 use native.Mathlib.Omega.{arith}
-use Prim.Native.Nat.{_-_}
 use Rattle.padding.proofs.Padding.{plan-none, plan-zeros, plan-left, plan-centre, plan-right}
 use borrow.Author.Needs.{needs}
 use Rattle.padding.proofs.plan.Statement.{statement}

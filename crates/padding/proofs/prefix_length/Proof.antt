@@ -1,9 +1,6 @@
 -- `padding::prefix_length` meets its contract. Assumes nothing.
-use mathlib.Core.Path.{sym, ap, _∙_}
-use Prim.Native.Nat.{ℕ}
-use native.Mathlib.Omega.{arith}
+use mathlib.Core.Path.{sym, ap}
 use lib.ListN.{length}
-use Rattle.padding.specs.Padding.{prefixOf}
 use Rattle.padding.proofs.Padding.{prefix-two, no-prefix-low, no-prefix-high}
 use borrow.Author.Needs.{needs}
 use Rattle.padding.proofs.prefix_length.Statement.{statement}

@@ -1,9 +1,9 @@
 -- `padding::put_letter` meets its contract. Assumes nothing.
 use mathlib.Core.List.{[], _∷_}
-use mathlib.Core.Path.{_≡_, ap, _∙_, sym}
-use Prim.Native.Nat.{ℕ, suc, _-_}
+use mathlib.Core.Path.{_≡_}
+use Prim.Native.Nat.{suc, _-_}
 use native.Mathlib.Omega.{arith}
-use lib.ListN.{set, length-set}
+use lib.ListN.{length-set}
 use Rattle.buffer.proofs.AtEnd.{ended-sets}
 use borrow.Author.Needs.{needs}
 use Rattle.padding.proofs.put_letter.Statement.{statement}

@@ -1,7 +1,4 @@
 -- `writer::write_digits` meets its contract. Assumes nothing.
-use mathlib.Core.Path.{_≡_}
-use Rattle.digits.specs.Text.{decimal}
-use Rattle.radix.specs.Radix.{radix}
 use Rattle.writer.proofs.Cases.{plain-decimal, plain-radix}
 use borrow.Author.Needs.{needs}
 use Rattle.writer.proofs.write_digits.Statement.{statement}

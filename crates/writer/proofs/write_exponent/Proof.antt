@@ -1,7 +1,7 @@
 -- `writer::write_exponent` meets its contract. The parts of the scratch bytes are the digits. Assumes nothing.
 use mathlib.Core.List.{List}
 use mathlib.Core.Path.{_≡_, sym, _∙_}
-use Prim.Native.Nat.{ℕ, _+_, _-_, _≤_}
+use Prim.Native.Nat.{ℕ, _+_}
 use native.Mathlib.Omega.{arith}
 use lib.ListN.{length}
 use Rattle.exponent.specs.Coefficient.{precisionOf}

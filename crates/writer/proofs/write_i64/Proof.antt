@@ -2,7 +2,6 @@
 use mathlib.Core.Path.{_≡_, refl, ap, _∙_}
 use native.Mathlib.Omega.{arith}
 use mir.Facts.{toZ-ofZ}
-use mir.Syntax.{w64}
 use Rattle.kinds.specs.Kinds.{pattern, meaning}
 use Rattle.kinds.proofs.Patterns.{signed-own, signed-meaning}
 use mathlib.Core.Bool.{true}

@@ -1,6 +1,6 @@
 -- `writer::write_plain` meets its contract. Assumes nothing.
 use mathlib.Core.Path.{_≡_, sym}
-use Prim.Native.Nat.{_+_, _-_, _≤_}
+use Prim.Native.Nat.{_+_}
 use native.Mathlib.Omega.{arith}
 use lib.ListN.{length}
 use Rattle.padding.specs.Padding.{signOf, prefixOf}

@@ -1,12 +1,7 @@
 -- `kinds::Kind::buf_size` meets its contract: each constant is the greatest decimal length of its type, which antt computes from the law over the bits.
 -- Assumes nothing.
-use mathlib.Core.Bool.{true, false}
-use mathlib.Core.Path.{_≡_}
-use Prim.Native.Nat.{ℕ}
-use native.Mathlib.Omega.{arith}
 use Rattle.digits.specs.Digits.{upTo, bare, digits}
 use Rattle.digits.specs.Text.{text}
-use Rattle.kinds.specs.Kinds.{known}
 use Rattle.kinds.proofs.Sizes.{greatest-signed, greatest-unsigned, unknown}
 use Rattle.kinds.proofs.Kind.buf_size.Statement.{statement}
 use Rattle.kinds.proofs.Kind.buf_size.Tie as tie

@@ -1,0 +1,49 @@
+// A list of parts of any length, lent as a slice: its length and its writing.
+// Carries over what flt2dec and fmt do with `&[Part]`. Every function with the list in its signature is proved by hand, so it holds loads, calls, the index and the test; all else is a covered step.
+ghost use mathlib.Core.Path.{_≡_};
+ghost use Prim.Native.Nat.{_-_, _≤_};
+ghost use lib.ListN.{length};
+ghost use Rattle.buffer.specs.AtEnd.{ended};
+ghost use Rattle.parts.specs.Parts.{textOf, Inside, trueLength};
+ghost use Rattle.parts.specs.Answers.{measured, Writes};
+use parts::Measured;
+use parts::Part;
+use parts::Wrote;
+
+// The length over a source of so many bytes.
+pub fn length(sign: u32, list: &[Part], source: usize) -> Measured
+    ensures { λ r. ⌜ r ≡ measured source sign (now (list .entry)) ⌝ }
+{
+    let mut past = parts::scan_start(sign);
+    let mut i: usize = 0;
+    while i < list.len() {
+        past = parts::scan_step(past, list[i], i, source);
+        i = i + 1;
+    }
+    past
+}
+
+// The text just before end, with no check: for a caller who has made them all. Its start is handed back.
+pub fn write_before(sign: u32, list: &[Part], src: &[u8], out: &mut [u8], end: usize) -> usize
+    requires { ⌜ Inside (length (now src)) (now list) × (trueLength sign (now list) ≤ end) × (end ≤ length (now out)) ⌝ }
+    ensures { λ r. ⌜ (r ≡ end - trueLength sign (now (list .entry))) × (now (out .exit) ≡ ended (now (out .entry)) end (textOf sign (now (src .entry)) (now (list .entry)))) ⌝ }
+{
+    let mut at = end;
+    let mut i = list.len();
+    while 0 < i {
+        i = i - 1;
+        at = list[i].write_before(src, out, at);
+    }
+    parts::write_sign(sign, out, at)
+}
+
+// The text at the start of out. The whole list is checked before the first byte is written.
+pub fn write(sign: u32, list: &[Part], src: &[u8], out: &mut [u8]) -> Wrote
+    ensures { λ r. ⌜ Writes sign (now (list .entry)) (now (src .entry)) (now (out .entry)) r (now (out .exit)) ⌝ }
+{
+    let answer = parts::judge(length(sign, list, src.len()), out.len());
+    if answer.number() == 0 {
+        write_before(sign, list, src, out, answer.value() as usize);
+    }
+    answer
+}
