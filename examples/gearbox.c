@@ -1,6 +1,6 @@
 /* Two tasks of a gearbox controller, each with a buffer of its own: one asks the engine for less torque while the gears
- * change, one asks for the shift. Here the messages go to a console, in the firmware to a bus; making them allocates
- * nothing and needs no C library. */
+ * change, one asks for the shift. Here the messages go to a console, in the firmware to a bus; making and reading them
+ * allocates nothing and needs no C library. */
 
 #include "larguviet.h"
 
@@ -35,22 +35,43 @@ static void send(const char *task, const struct message *message)
     printf("%-7s %.*s\n", task, (int)message->length, (const char *)message->bytes);
 }
 
-/* How much less torque, in newton metres, and the inertia to three figures. */
-static void torque_task(int16_t reduction, uint32_t inertia)
+/* The other end of the bus: a plain number must come out as it went in, or be refused with what is wrong about it. */
+static void receive(const char *task, uint32_t bits, uint32_t is_signed, uint64_t sent, const uint8_t *text, size_t len)
+{
+    lgv_answer answer = lgv_read(bits, is_signed, LGV_DECIMAL, text, len);
+
+    printf("%-7s \"%.*s\" ", task, (int)len, (const char *)text);
+    if (answer.number == LGV_SHAPE)
+        printf("is no number: see byte %u\n", (unsigned)answer.value);
+    else if (answer.number != LGV_DONE)
+        printf("is refused with %u\n", (unsigned)answer.number);
+    else
+        printf("is %s\n", answer.value == sent ? "as sent" : "another number");
+}
+
+/* How much less torque, in newton metres, and the inertia to three figures. The engine reads the torque. */
+static void torque_task(int16_t reduction, uint32_t inertia, int disturbed)
 {
     static uint8_t bytes[48];
-    static lgv_options const signed_field = {.plus = 1, .zero = 1, .width = 5};
     static lgv_options const three_figures = {.has_precision = 1, .precision = 2};
     struct message message = {bytes, sizeof bytes, 0};
+    uint64_t const sent = (uint64_t)reduction;
+    size_t start, end;
 
     add_words(&message, "torque ");
-    add(&message, lgv_write_i16(reduction, LGV_DECIMAL, signed_field, next(&message), left(&message)));
+    start = message.length;
+    add(&message, lgv_write_short(16, 1, sent, LGV_DECIMAL, next(&message), left(&message)));
+    end = message.length;
     add_words(&message, " Nm, inertia ");
     add(&message, lgv_write_u32(inertia, LGV_LOWER_EXP, three_figures, next(&message), left(&message)));
     send("torque", &message);
+
+    if (disturbed)
+        bytes[end - 1] = 'S';
+    receive("engine", 16, 1, sent, bytes + start, end - start);
 }
 
-/* The gear, the clutches bit by bit, and behind that the time if it has room. */
+/* The gear, the clutches bit by bit, and behind that the time if it has room. The valves read the gear. */
 static void shift_task(uint8_t gear, uint8_t clutches, uint64_t microseconds)
 {
     static uint8_t bytes[32];
@@ -58,15 +79,19 @@ static void shift_task(uint8_t gear, uint8_t clutches, uint64_t microseconds)
     static lgv_options const after_a_dot = {.fill = '.', .width = 6};
     struct message message = {bytes, sizeof bytes, 0};
     lgv_answer time;
+    size_t start, end;
 
     add_words(&message, "gear ");
+    start = message.length;
     add(&message, lgv_write_short(8, 0, gear, LGV_DECIMAL, next(&message), left(&message)));
+    end = message.length;
     add_words(&message, " clutches ");
     add(&message, lgv_write_u8(clutches, LGV_BINARY, eight_bits, next(&message), left(&message)));
     time = add(&message, lgv_write_u64(microseconds, LGV_DECIMAL, after_a_dot, next(&message), left(&message)));
     if (time.number == LGV_NO_ROOM)
         printf("shift   (no time: it takes %u bytes, and %zu are left)\n", (unsigned)time.value, left(&message));
     send("shift", &message);
+    receive("valves", 8, 0, gear, bytes + start, end - start);
 }
 
 /* A gear that is no number of 8 bits is refused, and not cut to one. */
@@ -92,9 +117,9 @@ static void count_task(uint64_t messages)
 
 int main(void)
 {
-    torque_task(-85, 172500);
+    torque_task(-85, 172500, 0);
     shift_task(4, 0x16, 7213);
-    torque_task(40, 173500);
+    torque_task(-40, 173500, 1);
     shift_task(5, 0x12, 19720000);
     diagnose_task(261);
     count_task(4);

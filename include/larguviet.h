@@ -3,6 +3,7 @@
  *   lgv_write               a number as text, in any format and layout
  *   lgv_write_short         the same without options
  *   lgv_write_u8 .. _i64    lgv_write for a type of C, with a struct of options
+ *   lgv_read                a text back to its number
  *   lgv_decimal_end_u64, _i64   plain decimal, at the end of a buffer
  *
  * Every entry works in the bytes that the caller lends it and nowhere else: it
@@ -36,7 +37,7 @@ extern "C" {
 #define LGV_RIGHT 3
 
 /* The numbers of an answer: what each says, and what the answer's value then is. */
-#define LGV_DONE 0           /* done: the length of the text */
+#define LGV_DONE 0           /* done: the length of the text, or the number read */
 #define LGV_EMPTY 1          /* there is no text to read: 0 */
 #define LGV_SHAPE 2          /* not a text of the format: the place where that shows */
 #define LGV_NOT_CANONICAL 3  /* a text of the format that is never written: 0 */
@@ -48,7 +49,7 @@ extern "C" {
 #define LGV_PART 9           /* a part leaves its source; no entry here takes parts */
 #define LGV_EXPONENT 10      /* an exponent above 99; no number of 64 bits has one */
 
-/* What the writing entries return. */
+/* What the writing entries and lgv_read return. */
 typedef struct {
     uint64_t number; /* LGV_DONE, or the refusal */
     uint64_t value;  /* what the number says */
@@ -99,6 +100,26 @@ lgv_answer lgv_write(uint32_t bits, uint32_t is_signed, uint64_t value, uint32_t
 /* lgv_write without options: no flag, fill a space, align LGV_UNSET, width 0 and no
  * precision. 64 bytes are enough for any number in any format. */
 lgv_answer lgv_write_short(uint32_t bits, uint32_t is_signed, uint64_t value, uint32_t format, uint8_t *out, size_t out_len);
+
+/* Reads the number of a text that lgv_write_short writes for the type and format,
+ * and of no other: no plus, prefix, padding, leading zero or "-0", and an exponent
+ * form without precision.
+ *
+ *   bits, is_signed   the type, as for lgv_write
+ *   format            LGV_DECIMAL to LGV_UPPER_EXP
+ *   text              text_len bytes, which are only read
+ *
+ * If it is done, value is the number; if signed, its 64-bit two's complement, so
+ * (int64_t)answer.value. The first that applies of these refuses: LGV_TYPE,
+ * LGV_OPTIONS, LGV_EMPTY, LGV_SHAPE, LGV_NOT_CANONICAL, LGV_RANGE. The place that
+ * goes with LGV_SHAPE is the offset of the first byte with which no text of the
+ * format can begin, or text_len if the text merely stops too early.
+ *
+ *     lgv_read(8, 0, LGV_DECIMAL, text, 3)   "255": LGV_DONE with 255
+ *                                            "256": LGV_RANGE
+ *                                            "12a": LGV_SHAPE with 2
+ */
+lgv_answer lgv_read(uint32_t bits, uint32_t is_signed, uint32_t format, const uint8_t *text, size_t text_len);
 
 /* Writes the decimal of a number at the END of a buffer: no leading zeros, "0" for
  * zero, and for a negative number a '-' in front.

@@ -13,6 +13,7 @@ mod exponent;
 mod measure;
 mod options;
 mod radix;
+mod readers;
 mod table;
 mod values;
 mod writers;
@@ -30,6 +31,8 @@ fn subjects() -> Vec<Subject> {
         exponent::to_three_places(),
         options::signed_at_a_width(),
         options::hex_with_prefix(),
+        readers::decimal(),
+        readers::hex(),
     ]
 }
 

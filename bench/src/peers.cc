@@ -1,11 +1,12 @@
-// The peers in C and C++. Each writes the text into the caller's bytes and gives its length;
-// fmt's give 0 where its header is not installed.
+// The peers in C and C++. A writer writes the text into the caller's bytes and gives its length, fmt's 0 where its
+// header is not installed; a reader gives the number.
 
 #include <charconv>
 #include <cinttypes>
 #include <cstddef>
 #include <cstdint>
 #include <cstdio>
+#include <cstdlib>
 #include <cstring>
 
 #if __has_include(<fmt/format.h>)
@@ -25,6 +26,12 @@ template <typename number> static size_t fmt_decimal(number, char *) { return 0;
 
 template <typename number> static size_t to_chars(number value, char *out, size_t len, int base) {
     return std::to_chars(out, out + len, value, base).ptr - out;
+}
+
+static uint64_t from_chars(const char *text, size_t len, int base) {
+    uint64_t value = 0;
+    std::from_chars(text, text + len, value, base);
+    return value;
 }
 
 extern "C" {
@@ -48,4 +55,9 @@ size_t peer_fmt_hex(uint64_t value, char *out, size_t) { return FMT_LENGTH("{:x}
 size_t peer_fmt_binary(uint64_t value, char *out, size_t) { return FMT_LENGTH("{:b}", value, out); }
 size_t peer_fmt_prefix(uint64_t value, char *out, size_t) { return FMT_LENGTH("{:#x}", value, out); }
 size_t peer_fmt_plus_zero(int64_t value, char *out, size_t) { return FMT_LENGTH("{:+012}", value, out); }
+
+uint64_t peer_from_chars(const char *text, size_t len) { return from_chars(text, len, 10); }
+uint64_t peer_from_chars_hex(const char *text, size_t len) { return from_chars(text, len, 16); }
+uint64_t peer_strtoull(const char *text, size_t) { return strtoull(text, nullptr, 10); }
+uint64_t peer_strtoull_hex(const char *text, size_t) { return strtoull(text, nullptr, 16); }
 }

@@ -9,6 +9,7 @@
 mod ends;
 mod frame;
 mod list;
+mod reads;
 mod report;
 mod values;
 mod writes;
@@ -33,6 +34,7 @@ fn run() -> ExitCode {
     let mut report = Report::default();
     ends::run(&mut report);
     writes::run(&mut report);
+    reads::run(&mut report);
     report.close()
 }
 

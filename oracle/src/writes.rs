@@ -123,7 +123,7 @@ fn judge(call: &Call, given: Answer, wanted: Answer, left: &str, frame: &Frame, 
 }
 
 /// Every value of a type of at most 32 bits that falls to a share.
-fn every_value(kind: Kind, share: u64) -> impl Iterator<Item = u64> {
+pub fn every_value(kind: Kind, share: u64) -> impl Iterator<Item = u64> {
     let patterns = 1u64 << kind.bits;
     (share..patterns).step_by(SHARES as usize).map(move |pattern| widened(kind, pattern))
 }

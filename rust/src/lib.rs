@@ -4,9 +4,11 @@
 mod codes;
 mod decimal;
 pub mod raw;
+mod read;
 mod write;
 
 pub use codes::{align, format, refusal, Kind};
 pub use decimal::{decimal_end_at_i64, decimal_end_at_u64, decimal_end_i64, decimal_end_u64};
 pub use raw::Answer;
+pub use read::read;
 pub use write::{write, write_short, Options};

@@ -6,7 +6,7 @@
 pub struct Answer {
     /// One of the numbers in [`refusal`](crate::refusal): 0 for done.
     pub number: u64,
-    /// The length that was written, the length that there was no room for, or 0.
+    /// The length that was written or needed, the number that was read, the place of a fault, or 0.
     pub value: u64,
 }
 
@@ -33,6 +33,10 @@ extern "C" {
     /// # Safety
     /// As for [`lgv_write`].
     pub fn lgv_write_short(bits: u32, is_signed: u32, value: u64, format: u32, out: *mut u8, out_len: usize) -> Answer;
+
+    /// # Safety
+    /// `text` must be valid for reads of `text_len` bytes; it may be null if `text_len` is 0.
+    pub fn lgv_read(bits: u32, is_signed: u32, format: u32, text: *const u8, text_len: usize) -> Answer;
 
     /// # Safety
     /// As for [`lgv_write`].

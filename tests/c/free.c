@@ -67,6 +67,8 @@ __attribute__((force_align_arg_pointer)) void _start(void)
     faults += lgv_write_i32(-1972, LGV_LOWER_EXP, rounded, out, sizeof out).value != 12 || differs(out, "-0001.9720e3");
     faults += lgv_write_short(8, 1, (uint64_t)-1, LGV_LOWER_HEX, out, sizeof out).value != 2 || differs(out, "ff");
     faults += lgv_write_short(8, 0, 256, LGV_DECIMAL, out, sizeof out).number != LGV_VALUE || differs(out, "ff");
+    faults += lgv_read(8, 1, LGV_LOWER_HEX, out, 2).value != UINT64_MAX;
+    faults += lgv_read(8, 1, LGV_DECIMAL, out, 2).number != LGV_SHAPE;
     __asm__ volatile("syscall" : : "a"(60), "D"(faults) : "rcx", "r11", "memory");
     __builtin_unreachable();
 }
