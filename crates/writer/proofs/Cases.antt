@@ -1,9 +1,9 @@
 -- Which way each test of the definitions went, and a text that is laid out in a buffer.
 -- Assumes nothing.
 use mathlib.Core.Bool.{Bool, true, false}
-use mathlib.Core.List.{List, _++_}
+use mathlib.Core.List.{List, _++_, append-nil}
 use mathlib.Core.Option.{Option}
-use mathlib.Core.Path.{_≡_, refl, sym, ap, _∙_}
+use mathlib.Core.Path.{_≡_, refl, sym, ap, ap₂, _∙_}
 use Prim.Native.Nat.{ℕ, _+_, _-_, _^_, _≤_, _<_}
 use native.Mathlib.Omega.{arith}
 use native.Mathlib.Nat.{lt-of-lt-of-le}
@@ -26,13 +26,13 @@ use Rattle.kinds.specs.Kinds.{known, inType, meaning, negative, pattern, splitO
 use Rattle.kinds.specs.declared.Split.{Split}
 use Rattle.padding.specs.Padding.{signOf, prefixOf}
 use Rattle.padding.specs.declared.Pad.{Pad}
-use Rattle.padding.proofs.Padding.{padded-is, padded-length}
+use Rattle.padding.proofs.Padding.{plan-none, padded-is, padded-length}
 use Rattle.radix.specs.Radix.{radix}
 use Rattle.radix.proofs.Lengths.{radix-most}
 use Rattle.scientific.specs.Layout.{expText}
 use Rattle.scientific.specs.Sci.{sci}
 use Rattle.writer.specs.Promise.{Laid, optionsKnown, fitted, exponentAnswer, answerOf, answer, Writes}
-use Rattle.writer.specs.Text.{letterOf, framed, plain, textOf}
+use Rattle.writer.specs.Text.{letterOf, framed, bare, plain, textOf}
 use Rattle.writer.specs.declared.Options.{Options}
 use Rattle.writer.specs.declared.Written.the-variants.{Done, TypeRefused, ValueRefused, OptionsRefused, ExponentRefused, NoRoom}
 use Rattle.writer.specs.declared.Written.{Written}
@@ -90,6 +90,26 @@ module _ (o : Options) (negative : Bool) (format : ℕ) (digits : List ℕ) (pad
       let w : front ++ (digits ++ back) ≡ t = sym (padded-is (o .zero) (o .fill) (o .align) (o .width) (signOf negative (o .plus)) (prefixOf (o .alternate) format) digits (L .planned)) in
       let f : fitted t (length l) ≡ Done (length t) = rw (le-leb (length t) (length l) (omega (arith, L .whole))) in
       rw f (record { answers = ap Done (L .whole); leaves = s₃ ∙ rw (w, L .whole) (ended-whole l t) })
+
+-- ---- digits with nothing around them but a minus
+
+module _ (o : Options) (negative : Bool) (format : ℕ) (digits : List ℕ) where
+  pub framed-bare : o .width ≡ 0 → o .plus ≡ false → o .alternate ≡ false → framed o negative format digits ≡ bare negative digits
+  framed-bare w p a =
+      let k : o .width - (length (signOf negative (o .plus)) + (length (prefixOf (o .alternate) format) + length digits)) ≡ 0 = omega arith in
+      padded-is (o .zero) (o .fill) (o .align) (o .width) (signOf negative (o .plus)) (prefixOf (o .alternate) format) digits (plan-none (o .zero) (o .align) _ k)
+      ∙ rw (p, a) (ap₂ (λ (x y : List ℕ). x ++ y) (append-nil (signOf negative false)) (append-nil digits))
+
+module _ (t l : List ℕ) (need : ℕ) (e : need ≡ length t) where
+  pub lacks-room : length l < need → Writes t (fitted t (length l)) l (NoRoom need) l
+  lacks-room h =
+      let f : fitted t (length l) ≡ NoRoom (length t) = rw (lt-leb (length t) (length l) (omega arith)) in
+      rw f (record { answers = ap NoRoom e; leaves = refl })
+
+  pub has-room : (l′ : List ℕ) → need ≤ length l → l′ ≡ ended l need t → Writes t (fitted t (length l)) l (Done need) l′
+  has-room l′ h g =
+      let f : fitted t (length l) ≡ Done (length t) = rw (le-leb (length t) (length l) (omega arith)) in
+      rw f (record { answers = ap Done e; leaves = g ∙ rw e (ended-whole l t) })
 
 -- ---- the whole text and the one answer, by the form
 

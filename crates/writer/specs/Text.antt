@@ -1,6 +1,6 @@
 -- The text of a value by format and options (document 01, "Digits", "Exponent", "Sign and prefix", "Padding"): one definition, over the bits and all whole numbers.
 use mathlib.Core.Bool.{Bool, false, cond}
-use mathlib.Core.List.{List}
+use mathlib.Core.List.{List, _++_}
 use mathlib.Core.Option.{Option}
 use Prim.Native.Nat.{ℕ}
 use lib.Dec.{eqb, leb}
@@ -39,3 +39,7 @@ textOf bits z format o = framed o (minus format z) format (body format bits (pre
 -- The digits of the forms that need no more than a number, decimal and radix: what the layers below count and write.
 abbrev pub plain : ℕ → ℕ → List ℕ
 plain format n = cond (eqb format 0) (decimal n) (radix format n)
+
+-- Digits with nothing around them but a minus.
+abbrev pub bare : Bool → List ℕ → List ℕ
+bare negative digits = signOf negative false ++ digits

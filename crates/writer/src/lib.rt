@@ -10,7 +10,7 @@ ghost use Rattle.kinds.specs.Kinds.{known, inType, meaning};
 ghost use lib.IntN.{pos};
 ghost use Rattle.exponent.specs.Coefficient.{precisionOf};
 ghost use Rattle.scientific.specs.Layout.{expText};
-ghost use Rattle.writer.specs.Text.{letterOf, framed, plain, textOf};
+ghost use Rattle.writer.specs.Text.{letterOf, framed, bare, plain, textOf};
 ghost use Rattle.writer.specs.Promise.{Laid, house, optionsKnown, fitted, exponentAnswer, answerOf, answer, number, value, Writes};
 use exponent::Precision;
 use exponent::Shown;
@@ -144,8 +144,29 @@ fn write_digits(format: u32, n: u64, out: &mut [u8], end: usize) -> usize
     radix::write_before(format, n, out, end)
 }
 
-// A form that needs no more than a number: its digits with what the options put around them, at the start of out.
-fn write_plain(format: u32, n: u64, negative: bool, options: Options, out: &mut [u8]) -> Written
+// Digits with nothing around them but a minus: the way of most calls.
+fn write_bare(format: u32, n: u64, negative: bool, out: &mut [u8]) -> Written
+    ensures { λ r. ⌜ Writes (bare negative (plain format n)) (fitted (bare negative (plain format n)) (length (now (out .entry)))) (now (out .entry)) r (now (out .exit)) ⌝ }
+{
+    let count = count_digits(format, n);
+    if negative {
+        let need = count + 1;
+        if out.len() < need {
+            return Written::NoRoom(need);
+        }
+        write_digits(format, n, out, need);
+        out[0] = b'-';
+        return Written::Done(need);
+    }
+    if out.len() < count {
+        return Written::NoRoom(count);
+    }
+    write_digits(format, n, out, count);
+    Written::Done(count)
+}
+
+// Digits with what the options put around them.
+fn write_framed(format: u32, n: u64, negative: bool, options: Options, out: &mut [u8]) -> Written
     requires { ⌜ options .fill ≤ 126 ⌝ }
     ensures { λ r. ⌜ Writes (framed options negative format (plain format n)) (fitted (framed options negative format (plain format n)) (length (now (out .entry)))) (now (out .entry)) r (now (out .exit)) ⌝ }
 {
@@ -170,6 +191,21 @@ fn write_plain(format: u32, n: u64, negative: bool, options: Options, out: &mut 
         at,
     );
     Written::Done(need)
+}
+
+// A form that needs no more than a number: its digits with what the options put around them, at the start of out.
+fn write_plain(format: u32, n: u64, negative: bool, options: Options, out: &mut [u8]) -> Written
+    requires { ⌜ options .fill ≤ 126 ⌝ }
+    ensures { λ r. ⌜ Writes (framed options negative format (plain format n)) (fitted (framed options negative format (plain format n)) (length (now (out .entry)))) (now (out .entry)) r (now (out .exit)) ⌝ }
+{
+    if options.width == 0 {
+        if !options.plus {
+            if !options.alternate {
+                return write_bare(format, n, negative, out);
+            }
+        }
+    }
+    write_framed(format, n, negative, options, out)
 }
 
 // The letter of an exponent form.
