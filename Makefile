@@ -14,7 +14,9 @@
 .NOTPARALLEL:
 .DEFAULT_GOAL := all
 
+# LIST_FULL=0 leaves out the lines with all fields.
 LIST_LINES := 2000
+LIST_FULL := 3000
 LIST_SEED := 1972
 
 export CARGO_TARGET_DIR := $(CURDIR)/build/cargo
@@ -45,8 +47,8 @@ all: check example
 
 example: archive
 	@mkdir -p build
-	gcc -std=c99 -O2 -Wall -Wextra -pedantic -Iinclude examples/end.c $(lib)/liblarguviet.a -o build/end
-	build/end
+	gcc -std=c99 -O2 -Wall -Wextra -pedantic -Iinclude examples/gearbox.c $(lib)/liblarguviet.a -o build/gearbox
+	build/gearbox
 
 test:
 	@tests/run
@@ -64,7 +66,7 @@ bench: archive
 	@cd bench && $(cargo_run)
 
 list: archive
-	@cd oracle && $(cargo_run) -- list $(LIST_LINES) $(LIST_SEED) --out ../crates/replay
+	@cd oracle && $(cargo_run) -- list $(LIST_LINES) $(LIST_FULL) $(LIST_SEED) --out ../crates/replay
 
 clean:
 	rm -rf build target

@@ -3,22 +3,34 @@
 //!     bench                       every subject: nanoseconds, and instructions where valgrind is installed
 //!     bench count SUBJECT NAME    one contender once, for callgrind to count
 
-#![feature(int_format_into)]
+#![feature(formatting_options, int_format_into)]
 
 #[cfg(itoa)]
 extern crate itoa;
 
 mod decimal;
+mod exponent;
 mod measure;
+mod options;
+mod radix;
 mod table;
 mod values;
+mod writers;
 
 use measure::Subject;
 use std::process::ExitCode;
 
-/// A further subject (hex, exponent, write, read) is a module that gives one of these.
 fn subjects() -> Vec<Subject> {
-    vec![decimal::unsigned(), decimal::signed()]
+    vec![
+        decimal::unsigned(),
+        decimal::signed(),
+        radix::hex(),
+        radix::binary(),
+        exponent::in_full(),
+        exponent::to_three_places(),
+        options::signed_at_a_width(),
+        options::hex_with_prefix(),
+    ]
 }
 
 fn main() -> ExitCode {

@@ -34,6 +34,11 @@ impl Frame {
         &mut self.bytes[self.lent.clone()]
     }
 
+    /// The bytes that are lent.
+    pub fn len(&self) -> usize {
+        self.lent.len()
+    }
+
     /// Whether the loan has `text` at `place` and every other byte, before, in and behind the loan, is as it was lent.
     pub fn holds(&self, place: usize, text: &[u8]) -> bool {
         let start = self.lent.start + place;

@@ -1,5 +1,7 @@
 //! The values that every subject is tried on: the limits, and seeded random numbers of random length.
 
+use larguviet::Kind;
+
 /// SplitMix64: every seed gives a good stream, and the same one on every machine.
 pub struct Random(u64);
 
@@ -28,6 +30,19 @@ impl Random {
             0 => self.of_bits(bits),
             1 => self.of_digits(bits),
             _ => self.with_runs(bits),
+        }
+    }
+
+    /// A value of a type, as a 64-bit two's complement pattern.
+    pub fn value(&mut self, kind: Kind) -> u64 {
+        if !kind.signed {
+            return self.magnitude(kind.bits);
+        }
+        let magnitude = self.magnitude(kind.bits - 1);
+        if self.below(2) == 0 {
+            magnitude
+        } else {
+            magnitude.wrapping_neg()
         }
     }
 

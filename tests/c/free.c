@@ -56,11 +56,17 @@ static int differs(const uint8_t *out, const char *text)
 __attribute__((force_align_arg_pointer)) void _start(void)
 {
     static uint8_t out[LGV_I64_BUF_SIZE];
+    static const lgv_options padded = {.fill = '*', .align = LGV_CENTRE, .width = 7};
+    static const lgv_options rounded = {.zero = 1, .width = 12, .has_precision = 1, .precision = 4};
     int faults = 0;
 
     faults += lgv_decimal_end_i64(INT64_MIN, out, sizeof out) != 0 || differs(out, "-9223372036854775808");
     faults += lgv_decimal_end_u64(UINT64_MAX, out, sizeof out) != 0 || differs(out, "18446744073709551615");
     faults += lgv_decimal_end_u64(1972, out, 3) != 3 || differs(out, "184");
+    faults += lgv_write_u8(42, LGV_DECIMAL, padded, out, sizeof out).value != 7 || differs(out, "**42***");
+    faults += lgv_write_i32(-1972, LGV_LOWER_EXP, rounded, out, sizeof out).value != 12 || differs(out, "-0001.9720e3");
+    faults += lgv_write_short(8, 1, (uint64_t)-1, LGV_LOWER_HEX, out, sizeof out).value != 2 || differs(out, "ff");
+    faults += lgv_write_short(8, 0, 256, LGV_DECIMAL, out, sizeof out).number != LGV_VALUE || differs(out, "ff");
     __asm__ volatile("syscall" : : "a"(60), "D"(faults) : "rcx", "r11", "memory");
     __builtin_unreachable();
 }
