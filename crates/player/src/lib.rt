@@ -5,6 +5,8 @@
 //     12 numbers            bits signed value format plus alternate zero fill align width given precision: the text by writer::write,
 //                           or `! NUMBER VALUE` of a refusal
 //     13 numbers            the same, with the room at the end: `NUMBER VALUE [BUFFER]`, over a buffer of so many dots
+//     t and 13 numbers      the same by the type's own entry, write_u8 to write_i64
+//     s and 5 numbers       bits signed value format room: the same by write_short
 //     p and 12 numbers      source sign, kind and two numbers for each of three parts, room: `NUMBER VALUE` of Formatted::length,
 //                           and `NUMBER VALUE [BUFFER]` of Formatted::write
 //     LABEL|LINE            `LABEL: ` and the answer to LINE
@@ -29,6 +31,8 @@ fn answer(line: &[u8], out: &mut [u8; 4096], waiting: usize) -> usize {
     match line[0] {
         b'u' => plain::answer(line, false, out, waiting),
         b'i' => plain::answer(line, true, out, waiting),
+        b't' => writing::answer_typed(line, out, waiting),
+        b's' => writing::answer_short(line, out, waiting),
         b'p' => formatted::answer(line, out, waiting),
         b'#' => output::put_all(out, waiting, line),
         _ => writing::answer(line, out, waiting),

@@ -1,20 +1,8 @@
 // The lines `u VALUE` and `i PATTERN`: the plain decimal, by the end entries.
-ghost use mathlib.Core.Bool.{true};
-ghost use mathlib.Core.Path.{_≡_};
-ghost use Rattle.kinds.specs.Kinds.{meaning};
 use crate::field;
 use crate::field::Field;
+use crate::narrow::signed_of;
 use crate::output;
-
-// The value whose pattern is p.
-fn signed_of(p: u64) -> i64
-    ensures { λ r. ⌜ r ≡ meaning 64 true p ⌝ }
-{
-    if p < 0x8000_0000_0000_0000 {
-        return p as i64;
-    }
-    !((0xffff_ffff_ffff_ffff - p) as i64)
-}
 
 fn put_i64(out: &mut [u8; 4096], waiting: usize, x: i64) -> usize {
     let mut text = [0u8; 20];

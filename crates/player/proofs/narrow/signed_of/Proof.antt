@@ -1,12 +1,12 @@
--- `player::plain::signed_of` meets its contract. Assumes nothing.
+-- `player::narrow::signed_of` meets its contract. Assumes nothing.
 use mathlib.Core.Path.{_≡_, ap}
 use Prim.Native.Nat.{_-_}
 use native.Mathlib.Omega.{arith}
 use borrow.Author.Needs.{needs}
 use mir.Val.{toZ}
 use mir.Syntax.{w64}
-use Rattle.player.proofs.plain.signed_of.Statement.{statement}
-use Rattle.player.proofs.plain.signed_of.Tie as tie
+use Rattle.player.proofs.narrow.signed_of.Statement.{statement}
+use Rattle.player.proofs.narrow.signed_of.Tie as tie
 
 cast-result : tie.Need-cast-result
 cast-result c = search needs
