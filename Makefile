@@ -4,7 +4,7 @@
 #   make test      all proofs from nothing, then the tests outside of them (what .ci/run calls)
 #   make outside   only the tests outside of the proofs; make oracle, make ctest: one of them
 #   make bench     times and instruction counts beside those of the peers
-#   make list      write the stored list of Rust's answers anew
+#   make list      write the stored lists of Rust's answers anew
 #   make archive   target/staticlib/liblarguviet.a
 #   make clean     remove all that is made
 #
@@ -17,6 +17,7 @@
 # LIST_FULL=0 leaves out the lines with all fields.
 LIST_LINES := 2000
 LIST_FULL := 3000
+LIST_PARTS := 1000
 LIST_SEED := 1972
 
 export CARGO_TARGET_DIR := $(CURDIR)/build/cargo
@@ -67,6 +68,7 @@ bench: archive
 
 list: archive
 	@cd oracle && $(cargo_run) -- list $(LIST_LINES) $(LIST_FULL) $(LIST_SEED) --out ../crates/replay
+	@cd oracle && $(cargo_run) -- parts $(LIST_PARTS) $(LIST_SEED) --out ../crates/replay_parts
 
 clean:
 	rm -rf build target

@@ -3,13 +3,17 @@
 //!     oracle                          run every part
 //!     oracle list N M SEED --out DIR  write N plain decimals and M calls with all fields to DIR/stdin, and Rust's
 //!                                     answers to DIR/stdout
+//!     oracle parts N SEED --out DIR   the same for N texts of parts
 
-#![feature(formatting_options, int_format_into)]
+#![feature(formatting_options, int_format_into, num_internals, numfmt)]
+// The parts are internal to the library.
+#![allow(internal_features)]
 
 mod ends;
 mod frame;
 mod list;
 mod reads;
+mod parts;
 mod report;
 mod values;
 mod writes;
@@ -23,7 +27,11 @@ fn main() -> ExitCode {
     match words[..] {
         [] => run(),
         ["list", plain, full, seed, "--out", folder] => match (plain.parse(), full.parse(), seed.parse()) {
-            (Ok(plain), Ok(full), Ok(seed)) => write_list(plain, full, seed, folder),
+            (Ok(plain), Ok(full), Ok(seed)) => wrote("list", list::write(plain, full, seed, folder.as_ref()), folder),
+            _ => usage(),
+        },
+        ["parts", count, seed, "--out", folder] => match (count.parse(), seed.parse()) {
+            (Ok(count), Ok(seed)) => wrote("parts", parts::write(count, seed, folder.as_ref()), folder),
             _ => usage(),
         },
         _ => usage(),
@@ -38,20 +46,20 @@ fn run() -> ExitCode {
     report.close()
 }
 
-fn write_list(plain: usize, full: usize, seed: u64, folder: &str) -> ExitCode {
-    match list::write(plain, full, seed, folder.as_ref()) {
+fn wrote(name: &str, lines: std::io::Result<usize>, folder: &str) -> ExitCode {
+    match lines {
         Ok(lines) => {
-            println!("oracle list: {lines} lines in {folder}/stdin and {folder}/stdout");
+            println!("oracle {name}: {lines} lines in {folder}/stdin and {folder}/stdout");
             ExitCode::SUCCESS
         }
         Err(error) => {
-            eprintln!("oracle list: {folder}: {error}");
+            eprintln!("oracle {name}: {folder}: {error}");
             ExitCode::FAILURE
         }
     }
 }
 
 fn usage() -> ExitCode {
-    eprintln!("usage: oracle | oracle list N M SEED --out DIR");
+    eprintln!("usage: oracle | oracle list N M SEED --out DIR | oracle parts N SEED --out DIR");
     ExitCode::from(2)
 }

@@ -1,4 +1,4 @@
-// Document 01's trials at the edges and the Rust's doc examples, as far as they concern decimal.
+// Document 01's trials at the edges and the Rust's doc examples, as far as they concern decimal by the end entries; the writer's are in trials_write.
 // A row is a line of the file stdout. That file is written by hand from the document and the Rust's text, never from what this program writes.
 mod row;
 
@@ -16,7 +16,7 @@ use row::signed;
 use row::split;
 use row::unsigned;
 
-// The table of document 01. The needed length of what is refused comes with the writer.
+// The table of document 01. The number and the needed length of what is refused are in trials_write.
 fn table() {
     unsigned(b"u8 0 decimal: ", 0, U8::BUF_SIZE);
     signed(b"i32 -1972 decimal: ", -1972, I32::BUF_SIZE);

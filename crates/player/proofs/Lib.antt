@@ -1,0 +1,2 @@
+-- A law of the fields of a line.
+pub mod Fields
