@@ -4,3 +4,4 @@ pub mod Spelled
 pub mod Lent
 pub mod Back
 pub mod Judged
+pub mod Twelve

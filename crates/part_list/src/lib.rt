@@ -2,7 +2,7 @@
 // Carries over what flt2dec and fmt do with `&[Part]`. Every function with the list in its signature is proved by hand, so it holds loads, calls, the index and the test; all else is a covered step.
 ghost use mathlib.Core.Path.{_≡_};
 ghost use Prim.Native.Nat.{_-_, _≤_};
-ghost use lib.ListN.{length};
+ghost use lib.ListN.{length, take};
 ghost use Rattle.buffer.specs.AtEnd.{ended};
 ghost use Rattle.parts.specs.Parts.{textOf, Inside, trueLength};
 ghost use Rattle.parts.specs.Answers.{measured, Writes};
@@ -46,4 +46,19 @@ pub fn write(sign: u32, list: &[Part], src: &[u8], out: &mut [u8]) -> Wrote
         write_before(sign, list, src, out, answer.value() as usize);
     }
     answer
+}
+
+// The first count of twelve parts by value, lent as a list: for callers, as a program's main, that can hold no list of parts themselves.
+pub fn length12(sign: u32, list: [Part; 12], count: usize, source: usize) -> Measured
+    requires { ⌜ count ≤ 12 ⌝ }
+    ensures { λ r. ⌜ r ≡ measured source sign (take count list) ⌝ }
+{
+    length(sign, &list[..count], source)
+}
+
+pub fn write12(sign: u32, list: [Part; 12], count: usize, src: &[u8], out: &mut [u8]) -> Wrote
+    requires { ⌜ count ≤ 12 ⌝ }
+    ensures { λ r. ⌜ Writes sign (take count list) (now (src .entry)) (now (out .entry)) r (now (out .exit)) ⌝ }
+{
+    write(sign, &list[..count], src, out)
 }
