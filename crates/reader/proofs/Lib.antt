@@ -7,3 +7,4 @@ pub mod Exponents
 pub mod Coefficients
 pub mod Magnitudes
 pub mod Outcomes
+pub mod Trials

@@ -122,16 +122,16 @@ module _ (letter b before : ℕ) (t : List ℕ) (from i v r : ℕ) (big : 1 < b)
 
 -- ---- 64 bits, in a base b
 
-module _ (b v d : ℕ) (pos : 0 < b) where
-  top : (2 ^ 64 - 1) / b * b + (2 ^ 64 - 1) % b ≡ 2 ^ 64 - 1
-  top = div-add-mod' (2 ^ 64 - 1) b
+module _ (b v d : ℕ) (pos : 0 < b) {top : ℕ} (is : top ≡ (2 ^ 64 - 1) / b) where
+  most : (2 ^ 64 - 1) / b * b + (2 ^ 64 - 1) % b ≡ 2 ^ 64 - 1
+  most = div-add-mod' (2 ^ 64 - 1) b
 
   -- a number above the greatest over b has no room for a digit more
-  pub over-top : (2 ^ 64 - 1) / b < v → 2 ^ 64 ≤ v * b + d
-  over-top h = omega (arith, top, mod-lt (2 ^ 64 - 1) pos, mul-le-mul-right b h)
+  pub over-top : top < v → 2 ^ 64 ≤ v * b + d
+  over-top h = omega (arith, most, mod-lt (2 ^ 64 - 1) pos, mul-le-mul-right b (rw is at h))
 
-  pub below-top : v ≤ (2 ^ 64 - 1) / b → v * b ≤ 2 ^ 64 - 1
-  below-top h = omega (arith, top, mul-le-mul-right b h)
+  pub below-top : v ≤ top → v * b ≤ 2 ^ 64 - 1
+  below-top h = omega (arith, most, mul-le-mul-right b (rw is at h))
 
 -- ---- a minus in front
 

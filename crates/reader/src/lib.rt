@@ -2,7 +2,7 @@
 // One pass over the text, in constant memory.
 ghost use mathlib.Core.Path.{_≡_};
 ghost use mathlib.Core.Bool.{true};
-ghost use Prim.Native.Nat.{_+_, _-_, _≤_, _<_};
+ghost use Prim.Native.Nat.{_+_, _-_, _/_, _^_, _≤_, _<_};
 ghost use lib.ListN.{length};
 ghost use Rattle.radix.specs.Radix.{digitByte};
 ghost use Rattle.reading.specs.Formats.{whole, decimalForm, radixForm, exponentForm, form};
@@ -52,6 +52,9 @@ impl Outcome {
     }
 }
 
+// The greatest number of 64 bits, over 10.
+const TENTH: u64 = 0x1999_9999_9999_9999;
+
 // A run of digits: where it ends, and the number that they stand for, unless it is over 64 bits.
 pub struct Run {
     pub end: usize,
@@ -95,12 +98,11 @@ fn skip(text: &[u8], from: usize, base: u64, letter: u8) -> usize
     i
 }
 
-// The run of digits from a place on, read behind what was read before.
-fn scan(text: &[u8], from: usize, base: u64, letter: u8, before: u64) -> Run
-    requires { ⌜ (from ≤ length (now text)) × (1 < base) × (base ≤ 16) × (57 < letter) × (letter ≤ 97) ⌝ }
+// The run of digits from a place on, read behind what was read before. top is the greatest number that a digit more may follow: no division here.
+fn scan(text: &[u8], from: usize, base: u64, top: u64, letter: u8, before: u64) -> Run
+    requires { ⌜ (from ≤ length (now text)) × (1 < base) × (base ≤ 16) × (57 < letter) × (letter ≤ 97) × (top ≡ (2 ^ 64 - 1) / base) ⌝ }
     ensures { λ r. ⌜ Scanned (digitByte letter) base before (now (text .entry)) from r ⌝ }
 {
-    let top = 0xffff_ffff_ffff_ffff / base;
     let mut value = before;
     let mut i = from;
     while i < text.len() {
@@ -157,12 +159,12 @@ pub enum Found {
     Number { minus: bool, value: u64, over: bool },
 }
 
-fn find_whole(text: &[u8], may: bool, base: u64, letter: u8) -> Found
-    requires { ⌜ (0 < length (now text)) × (1 < base) × (base ≤ 16) × (57 < letter) × (letter ≤ 97) ⌝ }
+fn find_whole(text: &[u8], may: bool, base: u64, top: u64, letter: u8) -> Found
+    requires { ⌜ (0 < length (now text)) × (1 < base) × (base ≤ 16) × (57 < letter) × (letter ≤ 97) × (top ≡ (2 ^ 64 - 1) / base) ⌝ }
     ensures { λ r. ⌜ FoundOf may (digitByte letter) base (now (text .entry)) r ⌝ }
 {
     let start = front(text, may);
-    let run = scan(text, start, base, letter, 0);
+    let run = scan(text, start, base, top, letter, 0);
     let end = run.end;
     if end < text.len() {
         return Found::Wrong(end);
@@ -228,7 +230,7 @@ fn read_decimal(signed: bool, bits: u32, text: &[u8]) -> Outcome
     requires { ⌜ (1 ≤ bits) × (bits ≤ 64) × (0 < length (now text)) ⌝ }
     ensures { λ r. ⌜ Judges (decimalForm signed) signed bits (now (text .entry)) r ⌝ }
 {
-    match find_whole(text, signed, 10, b'a') {
+    match find_whole(text, signed, 10, TENTH, b'a') {
         Found::Wrong(k) => Outcome::Shape(k),
         Found::Broken => Outcome::NotCanonical,
         Found::Number { minus, value, over } => {
@@ -241,11 +243,11 @@ fn read_decimal(signed: bool, bits: u32, text: &[u8]) -> Outcome
 }
 
 // A text in a base with letters, the pattern of the type's bits.
-fn read_radix(signed: bool, bits: u32, base: u64, letter: u8, text: &[u8]) -> Outcome
-    requires { ⌜ (1 ≤ bits) × (bits ≤ 64) × (0 < length (now text)) × (1 < base) × (base ≤ 16) × (57 < letter) × (letter ≤ 97) ⌝ }
+fn read_radix(signed: bool, bits: u32, base: u64, top: u64, letter: u8, text: &[u8]) -> Outcome
+    requires { ⌜ (1 ≤ bits) × (bits ≤ 64) × (0 < length (now text)) × (1 < base) × (base ≤ 16) × (57 < letter) × (letter ≤ 97) × (top ≡ (2 ^ 64 - 1) / base) ⌝ }
     ensures { λ r. ⌜ Judges (radixForm (digitByte letter) base bits) signed bits (now (text .entry)) r ⌝ }
 {
-    match find_whole(text, false, base, letter) {
+    match find_whole(text, false, base, top, letter) {
         Found::Wrong(k) => Outcome::Shape(k),
         Found::Broken => Outcome::NotCanonical,
         Found::Number {
@@ -268,7 +270,7 @@ fn fraction(text: &[u8], at: usize, lead: u64) -> Run
 {
     if at < text.len() {
         if text[at] == b'.' {
-            return scan(text, at + 1, 10, b'a', lead);
+            return scan(text, at + 1, 10, TENTH, b'a', lead);
         }
     }
     Run {
@@ -509,10 +511,10 @@ fn judge(signed: bool, bits: u32, format: u32, text: &[u8]) -> Outcome
 {
     match format {
         0 => read_decimal(signed, bits, text),
-        1 => read_radix(signed, bits, 2, b'a', text),
-        2 => read_radix(signed, bits, 8, b'a', text),
-        3 => read_radix(signed, bits, 16, b'a', text),
-        4 => read_radix(signed, bits, 16, b'A', text),
+        1 => read_radix(signed, bits, 2, 0x7fff_ffff_ffff_ffff, b'a', text),
+        2 => read_radix(signed, bits, 8, 0x1fff_ffff_ffff_ffff, b'a', text),
+        3 => read_radix(signed, bits, 16, 0x0fff_ffff_ffff_ffff, b'a', text),
+        4 => read_radix(signed, bits, 16, 0x0fff_ffff_ffff_ffff, b'A', text),
         5 => read_exponent(signed, bits, b'e', text),
         _ => read_exponent(signed, bits, b'E', text),
     }

@@ -12,7 +12,7 @@ front-requires : tie.Need-front-requires
 front-requires c κs = search needs
 
 scan-requires : tie.Need-scan-requires
-scan-requires c κs = let s = c .before .before in (front-inside (c .front .ensures) (s .pre .0), s .pre .1, s .pre .2, s .pre .3, s .pre .4)
+scan-requires c κs = let s = c .before .before in (front-inside (c .front .ensures) (s .pre .0), s .pre .1, s .pre .2, s .pre .3, s .pre .4, s .pre .5)
 
 returns : tie.Need-returns
 returns c = let s = c .before .before .before .before in found-stop _ _ (letters-alphabet _ _ (s .pre .3) (s .pre .1)) refl _ _ _ _ (c .before .before .front .ensures) (c .before .scan .ensures .stops) (c .if1 .taken)

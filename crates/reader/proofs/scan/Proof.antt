@@ -9,13 +9,10 @@ use Rattle.reader.proofs.scan.Statement.{statement}
 use Rattle.reader.proofs.scan.Tie as tie
 
 abbrev Inv-loop : tie.InvT-loop
-Inv-loop text from base letter before top value₀ i₀ value i = Sofar (digitByte letter) base before text from i value
+Inv-loop text from base top letter before value₀ i₀ value i = Sofar (digitByte letter) base before text from i value
 
 abbrev μ-loop : tie.MeasureT-loop
-μ-loop text from base letter before top value₀ i₀ value i = length text - i
-
-div-top : tie.Need-div-top Inv-loop μ-loop
-div-top c = omega (arith, c .before .pre .1)
+μ-loop text from base top letter before value₀ i₀ value i = length text - i
 
 loop-holds : tie.Need-loop-holds Inv-loop μ-loop
 loop-holds c = sofar-none _ _ _ _ _ (c .before .pre .0)
@@ -42,13 +39,13 @@ returns-2 : tie.Need-returns-2 Inv-loop μ-loop
 returns-2 c =
     let s = c .before .before .before .before .before .before .before .before in
     let S = c .before .before .before .before .before .before .loop .inv in
-    scanned-over _ _ _ _ _ _ _ _ (s .pre .1) (s .pre .2) S (omega arith) (c .before .before .before .digit .ensures) _ (omega arith) (over-top _ _ _ (omega arith) (c .before .if2 .taken)) (c .skip .ensures)
+    scanned-over _ _ _ _ _ _ _ _ (s .pre .1) (s .pre .2) S (omega arith) (c .before .before .before .digit .ensures) _ (omega arith) (over-top _ _ _ (omega arith) (s .pre .5) (c .before .if2 .taken)) (c .skip .ensures)
 
 mul-shifted : tie.Need-mul-shifted Inv-loop μ-loop
-mul-shifted c = record { fits = let s = c .before .before .before .before .before .before .before in omega (arith, below-top _ _ 0 (omega arith) (c .if2 .left)) }
+mul-shifted c = record { fits = omega (arith, below-top _ _ 0 (omega arith) (c .before .before .before .before .before .before .before .pre .5) (c .if2 .left)) }
 
 sub-if3 : tie.Need-sub-if3 Inv-loop μ-loop
-sub-if3 c = below-top _ _ 0 (omega arith) (c .if2 .left)
+sub-if3 c = below-top _ _ 0 (omega arith) (c .before .before .before .before .before .before .before .pre .5) (c .if2 .left)
 
 add-skip-2 : tie.Need-add-skip-2 Inv-loop μ-loop
 add-skip-2 c = search needs
@@ -63,7 +60,7 @@ returns-3 c =
     scanned-over _ _ _ _ _ _ _ _ (s .pre .1) (s .pre .2) S (omega arith) (c .before .before .before .before .digit .ensures) _ (omega arith) (omega arith) (c .skip2 .ensures)
 
 add-value : tie.Need-add-value Inv-loop μ-loop
-add-value c = record { fits = omega (arith, below-top _ _ 0 (omega arith) (c .before .if2 .left)) }
+add-value c = record { fits = omega (arith, below-top _ _ 0 (omega arith) (c .before .before .before .before .before .before .before .before .pre .5) (c .before .if2 .left)) }
 
 add-i : tie.Need-add-i Inv-loop μ-loop
 add-i c = search needs
@@ -86,7 +83,6 @@ scan-spec =
     (tie.spec
     Inv-loop
     μ-loop
-    div-top
     loop-holds
     shared-slice-read-digit
     digit-requires

@@ -1,4 +1,5 @@
 -- `reader::times_power` meets its contract. Assumes nothing.
+use mathlib.Core.Path.{refl}
 use Prim.Native.Nat.{_^_}
 use native.Mathlib.Omega.{arith}
 use Rattle.scientific.proofs.Tens as T
@@ -24,13 +25,13 @@ returns-3 : tie.Need-returns-3
 returns-3 c =
     let n = c .before .before .before .before .args .n in
     let k = c .before .before .before .before .args .k in
-    product-over n k (omega (arith, over-top (10 ^ k) n 0 (T.pos k) (rw (c .before .power .ensures) at (c .if3 .taken))))
+    product-over n k (omega (arith, over-top (10 ^ k) n 0 (T.pos k) refl (rw (c .before .power .ensures) at (c .if3 .taken))))
 
 mul-t6 : tie.Need-mul-t6
 mul-t6 c =
     let n = c .before .before .before .before .args .n in
     let k = c .before .before .before .before .args .k in
-    record { fits = rw (c .before .power .ensures) (omega (arith, below-top (10 ^ k) n 0 (T.pos k) (rw (c .before .power .ensures) at (c .if3 .left)))) }
+    record { fits = rw (c .before .power .ensures) (omega (arith, below-top (10 ^ k) n 0 (T.pos k) refl (rw (c .before .power .ensures) at (c .if3 .left)))) }
 
 returns-4 : tie.Need-returns-4
 returns-4 c = product-held _ _ _ (rw (c .before .power .ensures))
