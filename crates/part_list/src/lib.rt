@@ -1,5 +1,6 @@
 // A list of parts of any length, lent as a slice: its length and its writing.
-// Carries over what flt2dec and fmt do with `&[Part]`. Every function with the list in its signature is proved by hand, so it holds loads, calls, the index and the test; all else is a covered step.
+// Carries over len and write of Formatted of num/imp/fmt.rs, whose parts are such a slice. No function that holds the list is covered, so each is
+// loads, calls, the index and the test, and its proof is a walk by hand; all else is a step of parts.
 ghost use mathlib.Core.Path.{_≡_};
 ghost use Prim.Native.Nat.{_-_, _≤_};
 ghost use lib.ListN.{length, take};
