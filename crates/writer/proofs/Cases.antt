@@ -31,7 +31,7 @@ use Rattle.radix.specs.Radix.{radix}
 use Rattle.radix.proofs.Lengths.{radix-most}
 use Rattle.scientific.specs.Layout.{expText}
 use Rattle.scientific.specs.Sci.{sci}
-use Rattle.writer.specs.Promise.{Laid, optionsKnown, fitted, exponentAnswer, answerOf, answer, Writes}
+use Rattle.writer.specs.Promise.{Laid, house, optionsKnown, fitted, exponentAnswer, answerOf, answer, Writes}
 use Rattle.writer.specs.Text.{letterOf, framed, bare, plain, textOf}
 use Rattle.writer.specs.declared.Options.{Options}
 use Rattle.writer.specs.declared.Written.the-variants.{Done, TypeRefused, ValueRefused, OptionsRefused, ExponentRefused, NoRoom}
@@ -176,6 +176,9 @@ fill-known format o h = go (leb format 6) (leb (o .align) 3) (leb 32 (o .fill)) 
     go true true false false e f g i = absurd (let t : _≡_ {A = Bool} false true = rw (e, f, g) at h in let z : _≡_ {A = ℕ} 0 1 = cc in omega arith)
     go true false c false e f g i = absurd (let t : _≡_ {A = Bool} false true = rw (e, f) at h in let z : _≡_ {A = ℕ} 0 1 = cc in omega arith)
     go false b c false e f g i = absurd (let t : _≡_ {A = Bool} false true = rw e at h in let z : _≡_ {A = ℕ} 0 1 = cc in omega arith)
+
+pub house-known : (format : ℕ) → format ≤ 6 → optionsKnown format house ≡ true
+house-known format h = simp (le-leb format 6 h)
 
 -- a type has 1 to 64 bits
 pub known-range : (bits : ℕ) → known bits ≡ true → (1 ≤ bits) × (bits ≤ 64)

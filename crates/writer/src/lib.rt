@@ -292,11 +292,33 @@ pub fn write(kind: Kind, value: u64, format: u32, options: Options, out: &mut [u
     write_value(kind.signed, kind.bits, value, format, options, out)
 }
 
+// As write_value at the house default, which needs no options to be passed on.
+fn write_house(signed: bool, bits: u32, value: u64, format: u32, out: &mut [u8]) -> Written
+    requires { ⌜ (known bits ≡ true) × (inType signed bits (meaning 64 signed value) ≡ true) ⌝ }
+    ensures { λ r. ⌜ Writes (textOf bits (meaning 64 signed value) format house) (answerOf bits (meaning 64 signed value) format house (length (now (out .entry)))) (now (out .entry)) r (now (out .exit)) ⌝ }
+{
+    if format == 0 {
+        let split = kinds::split_pattern(signed, value);
+        return write_bare(format, split.magnitude, split.negative, out);
+    }
+    if format <= 4 {
+        let pattern = kinds::own_pattern(signed, bits, value);
+        return write_bare(format, pattern, false, out);
+    }
+    write_value(signed, bits, value, format, Options::house(), out)
+}
+
 // At the house default.
 pub fn write_short(kind: Kind, value: u64, format: u32, out: &mut [u8]) -> Written
     ensures { λ r. ⌜ Writes (textOf (kind .bits) (meaning 64 (kind .signed) value) format house) (answer (kind .signed) (kind .bits) value format house (length (now (out .entry)))) (now (out .entry)) r (now (out .exit)) ⌝ }
 {
-    write(kind, value, format, Options::house(), out)
+    if !kinds::is_known(kind.bits) {
+        return Written::TypeRefused;
+    }
+    if !kinds::in_type(kind.signed, kind.bits, value) {
+        return Written::ValueRefused;
+    }
+    write_house(kind.signed, kind.bits, value, format, out)
 }
 
 // By type, the value by value: type and value need no check.

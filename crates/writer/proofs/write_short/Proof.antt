@@ -1,19 +1,52 @@
 -- `writer::write_short` meets its contract. Assumes nothing.
+use mathlib.Core.Path.{sym, _∙_}
+use borrow.Author.Tests.{not-true, not-false}
+use Rattle.writer.specs.Promise.{house}
+use Rattle.writer.proofs.Cases.{known-range, type-refused, value-refused, judged}
 use borrow.Author.Needs.{needs}
 use Rattle.writer.proofs.write_short.Statement.{statement}
 use Rattle.writer.proofs.write_short.Tie as tie
 
-house-requires : tie.Need-house-requires
-house-requires c κs = search needs
+is-known-requires : tie.Need-is-known-requires
+is-known-requires c κs = search needs
 
-write-requires : tie.Need-write-requires
-write-requires c κs = search needs
+returns : tie.Need-returns
+returns c = let a = c .before .before .before .args in type-refused (a .kind .signed) (a .kind .bits) (a .value) (a .format) house (a .out .now) (sym (c .before .is-known .ensures) ∙ not-true _ (c .if1 .taken))
+
+in-type-requires : tie.Need-in-type-requires
+in-type-requires c κs = known-range _ (sym (c .before .is-known .ensures) ∙ not-false _ (c .if1 .left))
+
+returns-2 : tie.Need-returns-2
+returns-2 c =
+    let e = c .before .before in
+    let a = e .before .before .before .args in
+    value-refused (a .kind .signed) (a .kind .bits) (a .value) (a .format) house (a .out .now) (sym (e .before .is-known .ensures) ∙ not-false _ (e .if1 .left)) (sym (c .before .in-type .ensures) ∙ not-true _ (c .if2 .taken))
+
+write-house-requires : tie.Need-write-house-requires
+write-house-requires c κs =
+    let t = c .before in
+    let e = t .before .before in
+    (sym (e .before .is-known .ensures) ∙ not-false _ (e .if1 .left), sym (t .before .in-type .ensures) ∙ not-false _ (t .if2 .left))
 
 same-length : tie.Need-same-length
 same-length c = search needs
 
-returns : tie.Need-returns
-returns c = rw (c .before .before .before .before .house .ensures) at (c .before .before .write .ensures)
+returns-3 : tie.Need-returns-3
+returns-3 c =
+    let t = c .before .before .before .before in
+    let e = t .before .before in
+    let a = e .before .before .before .args in
+    let w = c .before .before .write-house in
+    judged (a .kind .signed) (a .kind .bits) (a .value) (a .format) house (a .out .now) (sym (e .before .is-known .ensures) ∙ not-false _ (e .if1 .left)) (sym (t .before .in-type .ensures) ∙ not-false _ (t .if2 .left)) (w .result) (w .last .1 .1 .1 .1 .0) (w .ensures)
 
 pub write-short-spec : {M : Type 1} → statement M
-write-short-spec = tie.close (tie.spec house-requires write-requires same-length returns)
+write-short-spec =
+    tie.close
+    (tie.spec
+    is-known-requires
+    returns
+    in-type-requires
+    returns-2
+    write-house-requires
+    same-length
+    returns-3)
