@@ -30,7 +30,7 @@ pub record DigitRun (α : ℕ → ℕ) (b : ℕ) (t : List ℕ) (from to : ℕ) 
   pub run : Digits α b t from to
   pub stop : to < length t → (d : ℕ) → d < b → α d ≡ getD t to 0 → ⊥
 
--- Such a run, and the number n that its digits stand for behind what was read before: held in 64 bits, or over them.
+-- Such a run, and the number that its digits stand for behind what was read before: held in 64 bits, or over them.
 pub record Scanned (α : ℕ → ℕ) (b before : ℕ) (t : List ℕ) (from : ℕ) (r : Run) : Type 0 where
   pub stops : DigitRun α b t from (r .end)
   pub held : r .over ≡ false → r .value ≡ valueFrom b before (stops .run .digits)

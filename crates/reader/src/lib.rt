@@ -83,7 +83,7 @@ fn digit(byte: u8, letter: u8) -> u64
     255
 }
 
-// Where the run of digits from a place on ends.
+// Where the run of digits from a place on ends, whatever they stand for.
 fn skip(text: &[u8], from: usize, base: u64, letter: u8) -> usize
     requires { ⌜ (from ≤ length (now text)) × (1 < base) × (base ≤ 16) × (57 < letter) × (letter ≤ 97) ⌝ }
     ensures { λ r. ⌜ DigitRun (digitByte letter) base (now (text .entry)) from r ⌝ }
