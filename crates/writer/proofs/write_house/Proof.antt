@@ -4,9 +4,9 @@ use mathlib.Core.Path.{refl}
 use native.Mathlib.Omega.{arith}
 use lib.ListN.{length}
 use Rattle.kinds.specs.Kinds.{meaning}
-use Rattle.writer.specs.Promise.{house}
-use Rattle.writer.specs.Text.{plain}
-use Rattle.writer.proofs.Cases.{decimal-writes, radix-writes, house-known, framed-bare, known-range}
+use Rattle.writing.specs.Promise.{house}
+use Rattle.writing.specs.Text.{plain}
+use Rattle.writing.proofs.Cases.{decimal-writes, radix-writes, house-known, framed-bare, known-range}
 use borrow.Author.Needs.{needs}
 use Rattle.writer.proofs.write_house.Statement.{statement}
 use Rattle.writer.proofs.write_house.Tie as tie

@@ -1,8 +1,8 @@
 -- `writer::write_short` meets its contract. Assumes nothing.
 use mathlib.Core.Path.{sym, _∙_}
 use borrow.Author.Tests.{not-true, not-false}
-use Rattle.writer.specs.Promise.{house}
-use Rattle.writer.proofs.Cases.{known-range, type-refused, value-refused, judged}
+use Rattle.writing.specs.Promise.{house}
+use Rattle.writing.proofs.Cases.{known-range, type-refused, value-refused, judged}
 use borrow.Author.Needs.{needs}
 use Rattle.writer.proofs.write_short.Statement.{statement}
 use Rattle.writer.proofs.write_short.Tie as tie

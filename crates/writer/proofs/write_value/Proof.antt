@@ -5,8 +5,8 @@ use Prim.Native.Nat.{_≤_}
 use borrow.Author.Tests.{not-true, not-false}
 use lib.ListN.{length}
 use Rattle.kinds.specs.Kinds.{meaning}
-use Rattle.writer.specs.Promise.{optionsKnown}
-use Rattle.writer.proofs.Cases.{options-refused, decimal-writes, radix-writes, exponent-writes, fill-known, known-range}
+use Rattle.writing.specs.Promise.{optionsKnown}
+use Rattle.writing.proofs.Cases.{options-refused, decimal-writes, radix-writes, exponent-writes, fill-known, known-range}
 use borrow.Author.Needs.{needs}
 use Rattle.writer.proofs.write_value.Statement.{statement}
 use Rattle.writer.proofs.write_value.Tie as tie

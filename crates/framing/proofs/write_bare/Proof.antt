@@ -1,4 +1,4 @@
--- `writer::write_bare` meets its contract. Assumes nothing.
+-- `framing::write_bare` meets its contract. Assumes nothing.
 use mathlib.Core.Bool.{Bool}
 use mathlib.Core.List.{_∷_}
 use mathlib.Core.Path.{_≡_, ap}
@@ -6,11 +6,12 @@ use Prim.Native.Nat.{_+_}
 use native.Mathlib.Omega.{arith}
 use lib.ListN.{set}
 use Rattle.buffer.proofs.AtEnd.{ended-front}
-use Rattle.writer.specs.Text.{bare, plain}
-use Rattle.writer.proofs.Cases.{plain-few, lacks-room, has-room}
+use Rattle.writing.specs.Text.{bare, plain}
+use Rattle.writing.proofs.Cases.{lacks-room, has-room}
+use Rattle.framing.proofs.Laid.{plain-few}
 use borrow.Author.Needs.{needs}
-use Rattle.writer.proofs.write_bare.Statement.{statement}
-use Rattle.writer.proofs.write_bare.Tie as tie
+use Rattle.framing.proofs.write_bare.Statement.{statement}
+use Rattle.framing.proofs.write_bare.Tie as tie
 
 count-digits-requires : tie.Need-count-digits-requires
 count-digits-requires c κs = search needs

@@ -1,7 +1,7 @@
--- `writer::options_known` meets its contract. Assumes nothing.
+-- `writing::options_known` meets its contract. Assumes nothing.
 use borrow.Author.Tests.{le-leb, lt-leb}
-use Rattle.writer.proofs.options_known.Statement.{statement}
-use Rattle.writer.proofs.options_known.Tie as tie
+use Rattle.writing.proofs.options_known.Statement.{statement}
+use Rattle.writing.proofs.options_known.Tie as tie
 
 returns : tie.Need-returns
 returns c = simp (lt-leb (c .before .args .format) 6 (c .if1 .taken))

@@ -1,15 +1,15 @@
--- `writer::write_framed` meets its contract. Assumes nothing.
+-- `framing::write_framed` meets its contract. Assumes nothing.
 use mathlib.Core.Path.{_≡_, sym}
 use Prim.Native.Nat.{_+_}
 use native.Mathlib.Omega.{arith}
 use lib.ListN.{length}
 use Rattle.padding.specs.Padding.{signOf, prefixOf}
-use Rattle.writer.specs.Promise.{Laid}
-use Rattle.writer.specs.Text.{plain}
-use Rattle.writer.proofs.Cases.{plain-few, need-is, no-room, in-room}
+use Rattle.framing.specs.Laid.{Laid}
+use Rattle.writing.specs.Text.{plain}
+use Rattle.framing.proofs.Laid.{plain-few, need-is, no-room, in-room}
 use borrow.Author.Needs.{needs}
-use Rattle.writer.proofs.write_framed.Statement.{statement}
-use Rattle.writer.proofs.write_framed.Tie as tie
+use Rattle.framing.proofs.write_framed.Statement.{statement}
+use Rattle.framing.proofs.write_framed.Tie as tie
 
 cast-fill : tie.Need-cast-fill
 cast-fill c = search needs

@@ -6,8 +6,8 @@ use crate::narrow::word;
 use crate::output;
 use exponent::Precision;
 use kinds::Kind;
-use writer::Options;
-use writer::Written;
+use writing::Options;
+use writing::Written;
 
 fn precision_of(given: u64, digits: u64) -> Precision {
     if given == 0 {

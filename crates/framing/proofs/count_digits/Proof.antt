@@ -1,10 +1,10 @@
--- `writer::count_digits` meets its contract. Assumes nothing.
+-- `framing::count_digits` meets its contract. Assumes nothing.
 use mathlib.Core.Path.{sym, ap, _∙_}
 use lib.ListN.{length}
-use Rattle.writer.proofs.Cases.{plain-decimal, plain-radix}
+use Rattle.framing.proofs.Laid.{plain-decimal, plain-radix}
 use borrow.Author.Needs.{needs}
-use Rattle.writer.proofs.count_digits.Statement.{statement}
-use Rattle.writer.proofs.count_digits.Tie as tie
+use Rattle.framing.proofs.count_digits.Statement.{statement}
+use Rattle.framing.proofs.count_digits.Tie as tie
 
 digit-count-requires : tie.Need-digit-count-requires
 digit-count-requires c κs = search needs

@@ -1,10 +1,10 @@
--- `writer::write_plain` meets its contract. Assumes nothing.
+-- `framing::write_plain` meets its contract. Assumes nothing.
 use borrow.Author.Tests.{not-true}
-use Rattle.writer.specs.Text.{plain}
-use Rattle.writer.proofs.Cases.{framed-bare}
+use Rattle.writing.specs.Text.{plain}
+use Rattle.writing.proofs.Cases.{framed-bare}
 use borrow.Author.Needs.{needs}
-use Rattle.writer.proofs.write_plain.Statement.{statement}
-use Rattle.writer.proofs.write_plain.Tie as tie
+use Rattle.framing.proofs.write_plain.Statement.{statement}
+use Rattle.framing.proofs.write_plain.Tie as tie
 
 write-bare-requires : tie.Need-write-bare-requires
 write-bare-requires c κs = search needs

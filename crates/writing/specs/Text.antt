@@ -11,7 +11,7 @@ use Rattle.exponent.specs.Coefficient.{precisionOf}
 use Rattle.padding.specs.Padding.{signOf, prefixOf, padded}
 use Rattle.radix.specs.Radix.{radix}
 use Rattle.scientific.specs.Layout.{expText}
-use Rattle.writer.specs.declared.Options.{Options}
+use Rattle.writing.specs.declared.Options.{Options}
 
 -- Format codes: 0 decimal, 1 to 4 binary, octal, lower and upper hex, 5 exponent with `e` (101), 6 with `E` (69).
 abbrev pub letterOf : ℕ → ℕ

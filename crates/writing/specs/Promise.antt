@@ -2,7 +2,7 @@
 use mathlib.Core.Bool.{Bool, true, false, cond, _&&_}
 use mathlib.Core.List.{List}
 use mathlib.Core.Path.{_≡_}
-use Prim.Native.Nat.{ℕ, _+_, _-_}
+use Prim.Native.Nat.{ℕ}
 use lib.Dec.{leb}
 use lib.IntN.{ℤ, natAbs}
 use lib.ListN.{length}
@@ -10,14 +10,12 @@ use Rattle.buffer.specs.AtEnd.{begun}
 use Rattle.exponent.specs.Coefficient.{precisionOf}
 use Rattle.exponent.specs.declared.Precision.the-variants.{None}
 use Rattle.kinds.specs.Kinds.{known, inType, meaning}
-use Rattle.padding.specs.Padding.{Planned, signOf, prefixOf}
-use Rattle.padding.specs.declared.Pad.{Pad}
 use Rattle.scientific.specs.Layout.{expText}
 use Rattle.scientific.specs.Sci.{sci}
-use Rattle.writer.specs.Text.{letterOf, framed, textOf}
-use Rattle.writer.specs.declared.Options.{Options}
-use Rattle.writer.specs.declared.Written.{Written}
-use Rattle.writer.specs.declared.Written.the-variants.{Done, TypeRefused, ValueRefused, OptionsRefused, ExponentRefused, NoRoom}
+use Rattle.writing.specs.Text.{letterOf, framed, textOf}
+use Rattle.writing.specs.declared.Options.{Options}
+use Rattle.writing.specs.declared.Written.{Written}
+use Rattle.writing.specs.declared.Written.the-variants.{Done, TypeRefused, ValueRefused, OptionsRefused, ExponentRefused, NoRoom}
 
 -- A known format, a known alignment and a fill of one byte from 32 to 126, used or not.
 abbrev pub optionsKnown : ℕ → Options → Bool
@@ -74,11 +72,6 @@ after ExponentRefused t l = l
 pub record Writes (t : List ℕ) (a : Written) (l : List ℕ) (r : Written) (l′ : List ℕ) : Type 0 where
   pub answers : r ≡ a
   pub leaves : l′ ≡ after a t l
-
--- How a text of so many digits is laid out in a buffer: the padding, and the whole length.
-pub record Laid (o : Options) (negative : Bool) (format : ℕ) (digits : List ℕ) (pad : Pad) (need : ℕ) : Type 0 where
-  pub planned : Planned (o .zero) (o .align) (o .width - (length (signOf negative (o .plus)) + (length (prefixOf (o .alternate) format) + length digits))) (pad .before) (pad .zeros) (pad .behind)
-  pub whole : need ≡ length (framed o negative format digits)
 
 -- The house default: no flag, fill space, alignment unset, width 0, precision none.
 abbrev pub house : Options

@@ -1,4 +1,4 @@
--- `writer::write_exponent` meets its contract. The parts of the scratch bytes are the digits. Assumes nothing.
+-- `framing::write_exponent` meets its contract. The parts of the scratch bytes are the digits. Assumes nothing.
 use mathlib.Core.List.{List}
 use mathlib.Core.Path.{_≡_, sym, _∙_}
 use Prim.Native.Nat.{ℕ, _+_}
@@ -7,12 +7,13 @@ use lib.ListN.{length}
 use Rattle.exponent.specs.Coefficient.{precisionOf}
 use Rattle.padding.specs.Padding.{signOf, prefixOf}
 use Rattle.scientific.specs.Layout.{expText}
-use Rattle.writer.specs.Promise.{Laid}
-use Rattle.writer.specs.Text.{letterOf}
-use Rattle.writer.proofs.Cases.{Digits, digits-of, refused-of, need-is, no-room, in-room, exponent-refused, exponent-kept}
+use Rattle.framing.specs.Laid.{Laid}
+use Rattle.writing.specs.Text.{letterOf}
+use Rattle.writing.proofs.Cases.{exponent-refused, exponent-kept}
+use Rattle.framing.proofs.Laid.{Digits, digits-of, refused-of, need-is, no-room, in-room}
 use borrow.Author.Needs.{needs}
-use Rattle.writer.proofs.write_exponent.Statement.{statement}
-use Rattle.writer.proofs.write_exponent.Tie as tie
+use Rattle.framing.proofs.write_exponent.Statement.{statement}
+use Rattle.framing.proofs.write_exponent.Tie as tie
 
 cast-fill : tie.Need-cast-fill
 cast-fill c = search needs

@@ -1,8 +1,8 @@
--- `writer::write_digits` meets its contract. Assumes nothing.
-use Rattle.writer.proofs.Cases.{plain-decimal, plain-radix}
+-- `framing::write_digits` meets its contract. Assumes nothing.
+use Rattle.framing.proofs.Laid.{plain-decimal, plain-radix}
 use borrow.Author.Needs.{needs}
-use Rattle.writer.proofs.write_digits.Statement.{statement}
-use Rattle.writer.proofs.write_digits.Tie as tie
+use Rattle.framing.proofs.write_digits.Statement.{statement}
+use Rattle.framing.proofs.write_digits.Tie as tie
 
 write-before-requires : tie.Need-write-before-requires
 write-before-requires c κs = let s = c .before .before .before in rw (plain-decimal (s .args .format) (s .args .n) (c .before .if1 .taken)) at (s .pre)

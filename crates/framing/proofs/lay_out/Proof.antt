@@ -1,4 +1,4 @@
--- `writer::lay_out` meets its contract. Assumes nothing.
+-- `framing::lay_out` meets its contract. Assumes nothing.
 use mathlib.Core.Path.{_≡_, subst}
 use Prim.Native.Nat.{ℕ, _+_, _-_, _≤_}
 use native.Mathlib.Omega.{arith}
@@ -6,8 +6,8 @@ use lib.ListN.{length}
 use Rattle.padding.specs.Padding.{Planned, signOf, prefixOf}
 use Rattle.padding.proofs.Padding.{sign-few, prefix-few, padded-length}
 use borrow.Author.Needs.{needs}
-use Rattle.writer.proofs.lay_out.Statement.{statement}
-use Rattle.writer.proofs.lay_out.Tie as tie
+use Rattle.framing.proofs.lay_out.Statement.{statement}
+use Rattle.framing.proofs.lay_out.Tie as tie
 
 sign-length-requires : tie.Need-sign-length-requires
 sign-length-requires c κs = search needs
