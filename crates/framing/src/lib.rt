@@ -8,8 +8,9 @@ ghost use Rattle.buffer.specs.AtEnd.{ended};
 ghost use Rattle.exponent.specs.Coefficient.{precisionOf};
 ghost use Rattle.scientific.specs.Layout.{expText};
 ghost use Rattle.writing.specs.Text.{letterOf, framed, bare, plain};
-ghost use Rattle.writing.specs.Promise.{fitted, exponentAnswer, Writes};
+ghost use Rattle.writing.specs.Promise.{fitted, keptAnswer, exponentAnswer, Writes};
 ghost use Rattle.framing.specs.Laid.{Laid};
+use exponent::Precision;
 use exponent::Shown;
 use padding::Pad;
 use writing::Options;
@@ -132,8 +133,39 @@ fn letter_of(format: u32) -> u8
     b'E'
 }
 
-// The exponent form: three parts over a scratch of 24 bytes, with what the options put around them, at the start of out.
-pub fn write_exponent(
+// The exponent form with nothing around it but a minus: straight into out, with no scratch.
+pub fn write_bare_exponent(
+    format: u32,
+    n: u64,
+    negative: bool,
+    precision: Precision,
+    out: &mut [u8],
+) -> Written
+    ensures { λ r. ⌜ Writes (bare negative (expText (letterOf format) (precisionOf precision) n)) (keptAnswer (precisionOf precision) n (bare negative (expText (letterOf format) (precisionOf precision) n)) (length (now (out .entry)))) (now (out .entry)) r (now (out .exit)) ⌝ }
+{
+    let scaled = exponent::scale(n, precision);
+    if 99 < scaled.exp {
+        return Written::ExponentRefused;
+    }
+    let size = scaled.size();
+    if negative {
+        let need = size + 1;
+        if out.len() < need {
+            return Written::NoRoom(need);
+        }
+        scaled.write_at(letter_of(format), out, 1);
+        out[0] = b'-';
+        return Written::Done(need);
+    }
+    if out.len() < size {
+        return Written::NoRoom(size);
+    }
+    scaled.write_at(letter_of(format), out, 0);
+    Written::Done(size)
+}
+
+// The exponent form with what the options put around it: three parts over a scratch of 24 bytes.
+fn write_framed_exponent(
     format: u32,
     n: u64,
     negative: bool,
@@ -170,4 +202,26 @@ pub fn write_exponent(
         at,
     );
     Written::Done(need)
+}
+
+// The exponent form with what the options put around it, at the start of out.
+pub fn write_exponent(
+    format: u32,
+    n: u64,
+    negative: bool,
+    options: Options,
+    out: &mut [u8],
+) -> Written
+    requires { ⌜ options .fill ≤ 126 ⌝ }
+    ensures { λ r. ⌜ Writes (framed options negative format (expText (letterOf format) (precisionOf (options .precision)) n)) (exponentAnswer options negative format n (length (now (out .entry)))) (now (out .entry)) r (now (out .exit)) ⌝ }
+{
+    let precision = options.precision;
+    if options.width == 0 {
+        if !options.plus {
+            if !options.alternate {
+                return write_bare_exponent(format, n, negative, precision, out);
+            }
+        }
+    }
+    write_framed_exponent(format, n, negative, options, out)
 }

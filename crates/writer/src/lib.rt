@@ -7,6 +7,7 @@ ghost use lib.ListN.{length};
 ghost use Rattle.kinds.specs.Kinds.{known, inType, meaning};
 ghost use Rattle.writing.specs.Text.{textOf};
 ghost use Rattle.writing.specs.Promise.{house, answerOf, answer, Writes};
+use exponent::Precision;
 use kinds::Kind;
 use writing::Options;
 use writing::Written;
@@ -64,7 +65,18 @@ fn write_house(signed: bool, bits: u32, value: u64, format: u32, out: &mut [u8])
         let pattern = kinds::own_pattern(signed, bits, value);
         return framing::write_bare(format, pattern, false, out);
     }
-    write_value(signed, bits, value, format, Options::house(), out)
+    if format <= 6 {
+        let split = kinds::split_pattern(signed, value);
+        let precision = Precision::None;
+        return framing::write_bare_exponent(
+            format,
+            split.magnitude,
+            split.negative,
+            precision,
+            out,
+        );
+    }
+    Written::OptionsRefused
 }
 
 // At the house default.

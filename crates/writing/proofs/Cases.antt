@@ -21,7 +21,7 @@ use Rattle.padding.proofs.Padding.{plan-none, padded-is}
 use Rattle.radix.specs.Radix.{radix}
 use Rattle.scientific.specs.Layout.{expText}
 use Rattle.scientific.specs.Sci.{sci}
-use Rattle.writing.specs.Promise.{house, optionsKnown, fitted, exponentAnswer, answerOf, answer, Writes}
+use Rattle.writing.specs.Promise.{house, optionsKnown, fitted, keptAnswer, exponentAnswer, answerOf, answer, Writes}
 use Rattle.writing.specs.Text.{letterOf, framed, bare, plain, textOf}
 use Rattle.writing.specs.declared.Options.{Options}
 use Rattle.writing.specs.declared.Written.the-variants.{Done, TypeRefused, ValueRefused, OptionsRefused, ExponentRefused, NoRoom}
@@ -118,6 +118,9 @@ fill-known format o h = go (leb format 6) (leb (o .align) 3) (leb 32 (o .fill)) 
 pub house-known : (format : ℕ) → format ≤ 6 → optionsKnown format house ≡ true
 house-known format h = simp (le-leb format 6 h)
 
+pub house-unknown : (format : ℕ) → 6 < format → optionsKnown format house ≡ false
+house-unknown format h = rw (lt-leb format 6 h)
+
 -- a type has 1 to 64 bits
 pub known-range : (bits : ℕ) → known bits ≡ true → (1 ≤ bits) × (bits ≤ 64)
 known-range bits h = go (eqb bits 8) (eqb bits 16) (eqb bits 32) (eqb bits 64) refl refl refl refl
@@ -131,15 +134,12 @@ known-range bits h = go (eqb bits 8) (eqb bits 16) (eqb bits 32) (eqb bits 64) r
 
 -- ---- the answer to an exponent form
 
-module _ (o : Options) (negative : Bool) (format n : ℕ) where
-  pub exponent-refused : (l : List ℕ) → 99 < sci (precisionOf (o .precision)) n .expo
-      → Writes (framed o negative format (expText (letterOf format) (precisionOf (o .precision)) n)) (exponentAnswer o negative format n (length l)) l ExponentRefused l
-  exponent-refused l h = rw (lt-leb (sci (precisionOf (o .precision)) n .expo) 99 h) (record { answers = refl; leaves = refl })
+module _ (p : Option ℕ) (n : ℕ) (t l : List ℕ) where
+  pub exponent-refused : 99 < sci p n .expo → Writes t (keptAnswer p n t (length l)) l ExponentRefused l
+  exponent-refused h = rw (lt-leb (sci p n .expo) 99 h) (record { answers = refl; leaves = refl })
 
-  pub exponent-kept : (l : List ℕ) (r : Written) (l′ : List ℕ) → sci (precisionOf (o .precision)) n .expo ≤ 99
-      → Writes (framed o negative format (expText (letterOf format) (precisionOf (o .precision)) n)) (fitted (framed o negative format (expText (letterOf format) (precisionOf (o .precision)) n)) (length l)) l r l′
-      → Writes (framed o negative format (expText (letterOf format) (precisionOf (o .precision)) n)) (exponentAnswer o negative format n (length l)) l r l′
-  exponent-kept l r l′ h W = rw (le-leb (sci (precisionOf (o .precision)) n .expo) 99 h) W
+  pub exponent-kept : (r : Written) (l′ : List ℕ) → sci p n .expo ≤ 99 → Writes t (fitted t (length l)) l r l′ → Writes t (keptAnswer p n t (length l)) l r l′
+  exponent-kept r l′ h W = rw (le-leb (sci p n .expo) 99 h) W
 
 -- ---- a type and a value that are judged first
 

@@ -1,6 +1,7 @@
 -- The one answer to a call, in document 01's order 5, 7, 6, 10, 8, its number and value, and the buffer afterwards.
 use mathlib.Core.Bool.{Bool, true, false, cond, _&&_}
 use mathlib.Core.List.{List}
+use mathlib.Core.Option.{Option}
 use mathlib.Core.Path.{_≡_}
 use Prim.Native.Nat.{ℕ}
 use lib.Dec.{leb}
@@ -77,9 +78,10 @@ pub record Writes (t : List ℕ) (a : Written) (l : List ℕ) (r : Written) (l�
 abbrev pub house : Options
 house = record { plus = false; alternate = false; zero = false; fill = 32; align = 0; width = 0; precision = None }
 
--- The answer to a magnitude n in exponent form, when its options are known.
+-- The answer to a magnitude n in exponent form with precision p, whose text with what is around it is t, when its options are known.
+abbrev pub keptAnswer : Option ℕ → ℕ → List ℕ → ℕ → Written
+keptAnswer p n t room = cond (leb (sci p n .expo) 99) (fitted t room) ExponentRefused
+
 abbrev pub exponentAnswer : Options → Bool → ℕ → ℕ → ℕ → Written
 exponentAnswer o negative format n room =
-    cond (leb (sci (precisionOf (o .precision)) n .expo) 99)
-    (fitted (framed o negative format (expText (letterOf format) (precisionOf (o .precision)) n)) room)
-    ExponentRefused
+    keptAnswer (precisionOf (o .precision)) n (framed o negative format (expText (letterOf format) (precisionOf (o .precision)) n)) room

@@ -2,7 +2,7 @@
 use native.Mathlib.Omega.{arith}
 use lib.ListN.{length-set}
 use borrow.Author.Needs.{needs}
-use Rattle.exponent.proofs.Encoding.{exp-one, exp-two}
+use Rattle.exponent.proofs.Encoding.{exp-one, exp-two, one-exp, two-exp}
 use Rattle.exponent.proofs.encode_exp.Statement.{statement}
 use Rattle.exponent.proofs.encode_exp.Tie as tie
 
@@ -19,7 +19,7 @@ add-buf-2 : tie.Need-add-buf-2
 add-buf-2 c = search needs
 
 slice-write-buf-2 : tie.Need-slice-write-buf-2
-slice-write-buf-2 c = simp length-set (omega arith)
+slice-write-buf-2 c = let a = c .before .args in simp length-set (omega (arith, one-exp (a .letter) (a .exp) (c .if1 .taken)))
 
 same-length : tie.Need-same-length
 same-length c = search needs
@@ -37,7 +37,7 @@ add-buf-4 : tie.Need-add-buf-4
 add-buf-4 c = search needs
 
 slice-write-buf-3 : tie.Need-slice-write-buf-3
-slice-write-buf-3 c = simp length-set (omega arith)
+slice-write-buf-3 c = let a = c .before .args in simp length-set (omega (arith, two-exp (a .letter) (a .exp) (c .if1 .left) (c .before .pre .0)))
 
 cast-buf-3 : tie.Need-cast-buf-3
 cast-buf-3 c = search needs
@@ -49,7 +49,7 @@ add-buf-6 : tie.Need-add-buf-6
 add-buf-6 c = search needs
 
 slice-write-buf-4 : tie.Need-slice-write-buf-4
-slice-write-buf-4 c = simp length-set (omega arith)
+slice-write-buf-4 c = let a = c .before .args in simp length-set (omega (arith, two-exp (a .letter) (a .exp) (c .if1 .left) (c .before .pre .0)))
 
 same-length-2 : tie.Need-same-length-2
 same-length-2 c = search needs
