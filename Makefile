@@ -3,6 +3,7 @@
 #   make all       prove what has changed, build the archive, run the example
 #   make test      all proofs from nothing, then the tests outside of them (what .ci/run calls)
 #   make outside   only the tests outside of the proofs; make oracle, make ctest: one of them
+#   make fuzz      calls made by coverage, for FUZZ_SECONDS (60); needs clang with libFuzzer, and is in no test run
 #   make bench     times and instruction counts beside those of the peers
 #   make list      write the stored lists of Rust's answers anew
 #   make archive   target/staticlib/liblarguviet.a
@@ -10,7 +11,7 @@
 #
 # LARGUVIET_LIB=DIR takes the liblarguviet.a in DIR and proves and builds none; `make test` does not heed it.
 
-.PHONY: all check archive example test outside oracle ctest bench list clean
+.PHONY: all check archive example test outside oracle ctest fuzz bench list clean
 .NOTPARALLEL:
 .DEFAULT_GOAL := all
 
@@ -19,6 +20,8 @@ LIST_LINES := 2000
 LIST_FULL := 3000
 LIST_PARTS := 1000
 LIST_SEED := 1972
+
+FUZZ_SECONDS := 60
 
 export CARGO_TARGET_DIR := $(CURDIR)/build/cargo
 cargo_run := cargo run --quiet --release --offline
@@ -62,6 +65,9 @@ oracle: archive
 
 ctest: archive
 	@tests/run c
+
+fuzz: archive
+	@FUZZ_SECONDS=$(FUZZ_SECONDS) tests/fuzz/run
 
 bench: archive
 	@cd bench && $(cargo_run)
