@@ -22,10 +22,9 @@ LIST_FULL := 3000
 LIST_PARTS := 1000
 LIST_SEED := 1972
 
-FUZZ_SECONDS := 60
+FUZZ_SECONDS ?= 60
 
-DESTDIR :=
-PREFIX := /usr/local
+PREFIX ?= /usr/local
 version := $(shell sed -n 's/^version = "\(.*\)"/\1/p' rust/Cargo.toml)
 installed := lib/liblarguviet.a include/larguviet.h lib/pkgconfig/larguviet.pc
 

@@ -72,7 +72,7 @@ static uint16_t take_length(struct input *input)
 {
     const uint8_t byte = (uint8_t)take(input, 1);
 
-    return byte < 240 ? byte % 80 : (uint16_t)take(input, 2);
+    return byte < 254 ? byte % 80 : (uint16_t)take(input, 2);
 }
 
 /* A number beside a power of two or ten, with either sign. */
