@@ -143,7 +143,9 @@ impl<'a> Reader<'a> {
         let agrees = self.beside.agree(kind, format, text, given);
         self.tally.expect(agrees, (text.len() as u64, format as usize), || {
             let text = text.escape_ascii();
-            format!("{kind:?} \"{text}\" in format {format}: {given:?}, and Rust's own reading differs in a way not listed")
+            format!(
+                "{kind:?} \"{text}\" in format {format}: {given:?}, and Rust's own reading differs in a way not listed"
+            )
         });
     }
 }
