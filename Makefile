@@ -4,7 +4,7 @@
 #   make test      all proofs from nothing, then the tests outside of them (what .ci/run calls)
 #   make outside   only the tests outside of the proofs; make oracle, make ctest: one of them
 #   make fuzz      calls made by coverage, for FUZZ_SECONDS (60); needs clang with libFuzzer, and is in no test run
-#   make bench     times and instruction counts beside those of the peers
+#   make bench     times and instruction counts beside those of the peers, sizes, and the chart docs/speed.svg
 #   make install   archive, header and pkg-config file under DESTDIR and PREFIX (/usr/local); make uninstall removes them
 #   make list      write the stored lists of Rust's answers anew
 #   make archive   target/staticlib/liblarguviet.a
@@ -75,7 +75,8 @@ fuzz: archive
 	@FUZZ_SECONDS=$(FUZZ_SECONDS) tests/fuzz/run
 
 bench: archive
-	@cd bench && $(cargo_run)
+	@cd bench && $(cargo_run) -- chart ../docs/speed.svg
+	@bench/sizes
 
 install: archive
 	install -d $(DESTDIR)$(PREFIX)/lib/pkgconfig $(DESTDIR)$(PREFIX)/include
