@@ -69,3 +69,15 @@ bytes-mod (suc k) x =
     let m : x % 2 ^ (suc k * 8) ≡ x / 256 % 2 ^ (k * 8) * 256 + x % 256 = ap (λ (i : ℕ). x % 2 ^ i) p ∙ mod-pow-add x (k * 8) 8 in
     let r : x % 256 < 256 = mod-lt x (lit< tt) in
     rw (m, digits-mod (x / 256 % 2 ^ (k * 8)) r, digits-div (x / 256 % 2 ^ (k * 8)) r) (ap (λ (l : List ℕ). x % 256 ∷ l) (bytes-mod k (x / 256)))
+
+-- a word made of a byte and of those above it
+pub bytes-cons : (k q a : ℕ) → a < 256 → bytesOf (suc k) (q * 256 + a) ≡ a ∷ bytesOf k q
+unfolding bytesOf
+bytes-cons k q a h = rw (digits-mod q h, digits-div q h)
+
+-- a word made of two
+pub bytes-join : (j k y : ℕ) {x : ℕ} → x < 2 ^ (j * 8) → bytesOf (j + k) (y * 2 ^ (j * 8) + x) ≡ bytesOf j x ++ bytesOf k y
+bytes-join j k y {x} h =
+    let low : bytesOf j (y * 2 ^ (j * 8) + x) ≡ bytesOf j x = sym (bytes-mod j (y * 2 ^ (j * 8) + x)) ∙ ap (bytesOf j) (digits-mod y h) in
+    let high : bytesOf k ((y * 2 ^ (j * 8) + x) / 2 ^ (j * 8)) ≡ bytesOf k y = ap (bytesOf k) (digits-div y h) in
+    bytes-split j k (y * 2 ^ (j * 8) + x) ∙ rw (low, high)
