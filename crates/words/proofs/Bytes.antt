@@ -7,9 +7,9 @@ use native.Mathlib.Nat.{zero-add, suc-add, div-one, mod-lt}
 use native.Mathlib.Omega.{arith}
 use lib.Arith.{digits-div, digits-mod}
 use lib.Dec.{lit<}
-use lib.ListN.{length, take, drop}
+use lib.ListN.{length, drop}
 use lib.Pow.{shr-shr, mod-pow-add}
-use lib.Seq.{take-at, drop-at, drop-append-le}
+use lib.Seq.{drop-at, drop-append-le}
 use Rattle.words.specs.Bytes.{bytesOf}
 
 pub length-bytesOf : (k x : ℕ) → length (bytesOf k x) ≡ k
@@ -38,20 +38,6 @@ bytes-split zero k x = rw (zero-add, div-one)
 bytes-split (suc j) k x =
     let e : x / 2 ^ 8 / 2 ^ (j * 8) ≡ x / 2 ^ (suc j * 8) = shr-shr x 8 (j * 8) ∙ ap (λ (i : ℕ). x / 2 ^ i) (omega arith) in
     rw suc-add (ap (λ (l : List ℕ). x % 256 ∷ l) (bytes-split j k (x / 256) ∙ ap (λ (y : ℕ). bytesOf j (x / 256) ++ bytesOf k y) e))
-
--- a word that is cut in two, whose bytes are known
-module _ (j k x : ℕ) (a b : List ℕ) (e : bytesOf (j + k) x ≡ a ++ b) (l : length a ≡ j) where
-  pub bytes-low : bytesOf j x ≡ a
-  bytes-low =
-      sym (take-at (bytesOf j x) (bytesOf k (x / 2 ^ (j * 8))) j (length-bytesOf j x))
-      ∙ ap (take j) (sym (bytes-split j k x) ∙ e)
-      ∙ take-at a b j l
-
-  pub bytes-high : bytesOf k (x / 2 ^ (j * 8)) ≡ b
-  bytes-high =
-      sym (drop-at (bytesOf j x) (bytesOf k (x / 2 ^ (j * 8))) j (length-bytesOf j x))
-      ∙ ap (drop j) (sym (bytes-split j k x) ∙ e)
-      ∙ drop-at a b j l
 
 -- a shift drops bytes in front; what comes in behind is what stood above
 pub bytes-shift : (j z x : ℕ) → z ≤ j → bytesOf j (x / 2 ^ (z * 8)) ≡ drop z (bytesOf j x) ++ bytesOf z (x / 2 ^ (j * 8))
