@@ -1,0 +1,24 @@
+// Hex digits side by side in a word, one a byte, the first in the lowest: four or eight of them by shifts and masks, and no loop.
+ghost use mathlib.Core.Path.{_≡_};
+ghost use Prim.Native.Nat.{_<_, _≤_};
+ghost use Rattle.digits.specs.Digits.{last};
+ghost use Rattle.lanes.specs.Lanes.{word};
+
+// The four hex digits of n. The halves of each lane go into lanes of half the size.
+fn spread4(n: u32) -> u32
+    requires { ⌜ n < 65536 ⌝ }
+    ensures { λ r. ⌜ r ≡ word 256 (last 16 4 n) ⌝ }
+{
+    let bytes = (n >> 8) + ((n % 256) << 16);
+    ((bytes >> 4) & 0x000f_000f) + ((bytes & 0x000f_000f) << 8)
+}
+
+// The eight hex digits of n.
+fn spread8(n: u64) -> u64
+    requires { ⌜ n < 4294967296 ⌝ }
+    ensures { λ r. ⌜ r ≡ word 256 (last 16 8 n) ⌝ }
+{
+    let halves = (n >> 16) + ((n % 65536) << 32);
+    let bytes = ((halves >> 8) & 0x0000_00ff_0000_00ff) + ((halves & 0x0000_00ff_0000_00ff) << 16);
+    ((bytes >> 4) & 0x000f_000f_000f_000f) + ((bytes & 0x000f_000f_000f_000f) << 8)
+}
