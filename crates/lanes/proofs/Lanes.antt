@@ -3,7 +3,7 @@
 use mathlib.Core.Path.{_≡_, refl, sym, ap, ap₂, _∙_}
 use mathlib.Core.List.{List, [], _∷_, map}
 use Prim.Native.Nat.{ℕ, zero, suc, _+_, _*_, _-_, _/_, _%_, _^_, _≤_, _<_}
-use native.Mathlib.Nat.{zero-add, add-zero, suc-add, add-suc, zero-mul, mul-comm, mul-assoc, pow-zero, pow-suc, div-one, mod-mod, div-add-mod', div-div-eq-div-mul, div-lt-iff-lt-mul, mod-lt, mul-add-mod-self-right, mul-le-mul-right, lt-of-lt-of-le, mul-pos, mod-eq-of-lt, lt-of-le-of-lt, le-trans, mod-le, add-le-add, one-mul}
+use native.Mathlib.Nat.{add-zero, suc-add, add-suc, zero-mul, mul-comm, mul-assoc, pow-zero, pow-suc, div-one, mod-mod, div-add-mod', div-div-eq-div-mul, div-lt-iff-lt-mul, mod-lt, mul-add-mod-self-right, mul-le-mul-right, lt-of-lt-of-le, mod-eq-of-lt, lt-of-le-of-lt, le-trans, mod-le, add-le-add, one-mul}
 use native.Mathlib.Omega.{arith}
 use lib.Arith.{digits-lt, digits-div, digits-mod, mod-mul}
 use lib.Bits.{bitAnd, and-block, and-mask, and-zero-r, and-le-r}
@@ -154,10 +154,13 @@ module _ (b : ℕ) where
   word-times f x (d ∷ ds) = rw (← word-times f x ds) (omega arith)
 
   -- the same number in each lane
-  pub word-each : (x : ℕ) (ds : List ℕ) → word b (replicate (length ds) x) ≡ word b (map (λ (d : ℕ). x) ds)
+  word-each : (x : ℕ) (ds : List ℕ) → word b (replicate (length ds) x) ≡ word b (map (λ (d : ℕ). x) ds)
   unfolding word
   word-each x [] = refl
   word-each x (d ∷ ds) = ap (λ (v : ℕ). v * b + x) (word-each x ds)
+
+  pub word-plus : (f : ℕ → ℕ) (x : ℕ) (ds : List ℕ) → word b (map f ds) + word b (replicate (length ds) x) ≡ word b (map (λ (d : ℕ). f d + x) ds)
+  word-plus f x ds = ap (λ (y : ℕ). word b (map f ds) + y) (word-each x ds) ∙ word-sum f (λ (d : ℕ). x) ds
 
   pub word-most : (x : ℕ) (ds : List ℕ) → Below (suc x) ds → word b ds ≤ word b (replicate (length ds) x)
   unfolding word Below

@@ -1,2 +1,3 @@
 -- Laws that belong to no one function.
 pub mod Lanes
+pub mod Letters

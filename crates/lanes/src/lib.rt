@@ -2,7 +2,10 @@
 ghost use mathlib.Core.Path.{_≡_};
 ghost use Prim.Native.Nat.{_<_, _≤_};
 ghost use Rattle.digits.specs.Digits.{last};
+ghost use Rattle.digits.specs.Text.{lastText};
 ghost use Rattle.lanes.specs.Lanes.{word};
+ghost use Rattle.lanes.specs.Letters.{digitByte};
+ghost use Rattle.words.specs.Bytes.{bytesOf};
 
 // The four hex digits of n. The halves of each lane go into lanes of half the size.
 fn spread4(n: u32) -> u32
@@ -21,4 +24,24 @@ fn spread8(n: u64) -> u64
     let halves = (n >> 16) + ((n % 65536) << 32);
     let bytes = ((halves >> 8) & 0x0000_00ff_0000_00ff) + ((halves & 0x0000_00ff_0000_00ff) << 16);
     ((bytes >> 4) & 0x000f_000f_000f_000f) + ((bytes & 0x000f_000f_000f_000f) << 8)
+}
+
+// The text of the four hex digits of n: `0` on, and from ten the letter on, which is where six more reach the next bit of a lane.
+pub fn four(letter: u32, n: u32) -> u32
+    requires { ⌜ (57 < letter) × (letter ≤ 250) × (n < 65536) ⌝ }
+    ensures { λ r. ⌜ bytesOf 4 r ≡ lastText (digitByte letter) 16 4 n ⌝ }
+{
+    let x = spread4(n);
+    let tens = ((x + 0x0606_0606) >> 4) & 0x0101_0101;
+    x + 0x3030_3030 + tens * (letter - 58)
+}
+
+// The text of the eight hex digits of n.
+pub fn eight(letter: u64, n: u64) -> u64
+    requires { ⌜ (57 < letter) × (letter ≤ 250) × (n < 4294967296) ⌝ }
+    ensures { λ r. ⌜ bytesOf 8 r ≡ lastText (digitByte letter) 16 8 n ⌝ }
+{
+    let x = spread8(n);
+    let tens = ((x + 0x0606_0606_0606_0606) >> 4) & 0x0101_0101_0101_0101;
+    x + 0x3030_3030_3030_3030 + tens * (letter - 58)
 }
