@@ -3,7 +3,7 @@
 use mathlib.Core.Bool.{Bool, true, false}
 use mathlib.Core.Path.{_≡_, refl, sym, ap, ap₂, _∙_}
 use mathlib.Core.List.{List, [], _∷_, map, map-id, map-map}
-use Prim.Native.Nat.{ℕ, zero, _+_, _*_, _-_, _/_, _%_, _^_, _≤_, _<_}
+use Prim.Native.Nat.{ℕ, _+_, _*_, _-_, _/_, _%_, _^_, _≤_, _<_}
 use native.Mathlib.Nat.{mul-le-mul}
 use native.Mathlib.Omega.{arith}
 use borrow.Author.Tests.{ltb-true, ltb-false}
@@ -85,8 +85,8 @@ module _ (k n : ℕ) where
         let ds = last 16 k n in
         let i : word 256 ds ≡ word 256 (map (λ (d : ℕ). d) ds) = ap (word 256) (sym (map-id ds)) in
         let six : x + word 256 (replicate k 6) ≡ word 256 (map (λ (d : ℕ). d + 6) ds) = rw (e, i) (plus (λ (d : ℕ). d) 6) in
-        let zero : x + word 256 (replicate k 48) ≡ word 256 (map (λ (d : ℕ). d + 48) ds) = rw (e, i) (plus (λ (d : ℕ). d) 48) in
-        rw (six, zero, tens)
+        let plain : x + word 256 (replicate k 48) ≡ word 256 (map (λ (d : ℕ). d + 48) ds) = rw (e, i) (plus (λ (d : ℕ). d) 48) in
+        rw (six, plain, tens)
         (ap (λ (y : ℕ). word 256 (map (λ (d : ℕ). d + 48) ds) + y) (word-times 256 (λ (d : ℕ). (d + 6) / 2 ^ 4 % 2 ^ 1) (letter - 58) ds)
         ∙ word-sum 256 (λ (d : ℕ). d + 48) (λ (d : ℕ). (d + 6) / 2 ^ 4 % 2 ^ 1 * (letter - 58)) ds
         ∙ ap (word 256) (map-same 16 _ (digitByte letter) (byte-is letter low) ds digits-below))
