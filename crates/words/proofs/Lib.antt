@@ -1,2 +1,4 @@
 -- Laws that belong to no one function.
 pub mod Bytes
+pub mod Stores
+pub mod Zeros
