@@ -85,7 +85,7 @@ digit-halves q x p =
     let l : x % q < q = mod-lt x p in
     (rw (m, digits-div (x / q % q) l) (mod-mod (x / q) q), rw (m, digits-mod (x / q % q) l))
 
-square : (q k : ℕ) → (q * q) ^ k ≡ q ^ (k + k)
+pub square : (q k : ℕ) → (q * q) ^ k ≡ q ^ (k + k)
 square q zero = pow-zero (q * q) ∙ sym (pow-zero q)
 square q (suc k) = rw (pow-suc, square q k, suc-add, add-suc, pow-suc, pow-suc) (omega arith)
 

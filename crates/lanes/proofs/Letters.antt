@@ -27,7 +27,7 @@ bytes-word (d ∷ ds) h =
     rw (digits-mod (word 256 ds) (h .0), digits-div (word 256 ds) (h .0)) (ap (λ (l : List ℕ). d ∷ l) (bytes-word ds (h .1)))
 
 module _ (b : ℕ) (f g : ℕ → ℕ) (same : (d : ℕ) → d < b → f d ≡ g d) where
-  map-same : (ds : List ℕ) → Below b ds → map f ds ≡ map g ds
+  pub map-same : (ds : List ℕ) → Below b ds → map f ds ≡ map g ds
   unfolding Below
   map-same [] h = refl
   map-same (d ∷ ds) h = ap₂ (λ (x : ℕ) (l : List ℕ). x ∷ l) (same d (h .0)) (map-same ds (h .1))

@@ -45,3 +45,14 @@ pub fn eight(letter: u64, n: u64) -> u64
     let tens = ((x + 0x0606_0606_0606_0606) >> 4) & 0x0101_0101_0101_0101;
     x + 0x3030_3030_3030_3030 + tens * (letter - 58)
 }
+
+// The byte of one hex digit.
+pub fn one(letter: u8, n: u8) -> u8
+    requires { ⌜ (letter ≤ 250) × (n < 16) ⌝ }
+    ensures { λ r. ⌜ r ≡ digitByte letter n ⌝ }
+{
+    if n < 10 {
+        return 48 + n;
+    }
+    letter + (n - 10)
+}
