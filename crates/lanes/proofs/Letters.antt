@@ -26,8 +26,9 @@ bytes-word [] h = refl
 bytes-word (d ∷ ds) h =
     rw (digits-mod (word 256 ds) (h .0), digits-div (word 256 ds) (h .0)) (ap (λ (l : List ℕ). d ∷ l) (bytes-word ds (h .1)))
 
-module _ (b : ℕ) (f g : ℕ → ℕ) (same : (d : ℕ) → d < b → f d ≡ g d) where
-  pub map-same : (ds : List ℕ) → Below b ds → map f ds ≡ map g ds
+-- two alphabets that agree on the digits
+module _ (α β : ℕ → ℕ) (b : ℕ) (same : (d : ℕ) → d < b → α d ≡ β d) where
+  pub map-same : (ds : List ℕ) → Below b ds → map α ds ≡ map β ds
   unfolding Below
   map-same [] h = refl
   map-same (d ∷ ds) h = ap₂ (λ (x : ℕ) (l : List ℕ). x ∷ l) (same d (h .0)) (map-same ds (h .1))
@@ -89,7 +90,7 @@ module _ (k n : ℕ) where
         rw (six, plain, tens)
         (ap (λ (y : ℕ). word 256 (map (λ (d : ℕ). d + 48) ds) + y) (word-times 256 (λ (d : ℕ). (d + 6) / 2 ^ 4 % 2 ^ 1) (letter - 58) ds)
         ∙ word-sum 256 (λ (d : ℕ). d + 48) (λ (d : ℕ). (d + 6) / 2 ^ 4 % 2 ^ 1 * (letter - 58)) ds
-        ∙ ap (word 256) (map-same 16 _ (digitByte letter) (byte-is letter low) ds digits-below))
+        ∙ ap (word 256) (map-same _ (digitByte letter) 16 (byte-is letter low) ds digits-below))
 
     pub text-bytes : letter ≤ 250 → bytesOf k (word 256 (lastText (digitByte letter) 16 k n)) ≡ lastText (digitByte letter) 16 k n
     unfolding lastText
