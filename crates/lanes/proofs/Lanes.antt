@@ -62,7 +62,7 @@ module _ (c j s : ℕ) where
       ∙ ap₂ (λ (x y : ℕ). x * b + y) (field ds (h .1)) (and-mask low j ∙ fielded v (2 ^ c) (2 ^ j) (2 ^ s) d)
 
 -- the low j bits
-masked : (c j : ℕ) (ds : List ℕ) → Below (2 ^ (c + j)) ds → bitAnd (word (2 ^ (c + j)) ds) (word (2 ^ (c + j)) (replicate (length ds) (2 ^ j - 1))) ≡ word (2 ^ (c + j)) (map (λ (d : ℕ). d % 2 ^ j) ds)
+pub masked : (c j : ℕ) (ds : List ℕ) → Below (2 ^ (c + j)) ds → bitAnd (word (2 ^ (c + j)) ds) (word (2 ^ (c + j)) (replicate (length ds) (2 ^ j - 1))) ≡ word (2 ^ (c + j)) (map (λ (d : ℕ). d % 2 ^ j) ds)
 masked c j ds h =
     let h′ : Below (2 ^ (c + j + 0)) ds = rw add-zero h in
     simp (add-zero, pow-zero, div-one) at (field c j 0 ds h′)

@@ -3,7 +3,7 @@
 use mathlib.Core.Bool.{Bool, true, false}
 use mathlib.Core.Path.{_≡_, refl, sym, ap, ap₂, _∙_}
 use mathlib.Core.List.{List, [], _∷_, map, map-id, map-map}
-use Prim.Native.Nat.{ℕ, _+_, _*_, _-_, _/_, _%_, _^_, _≤_, _<_}
+use Prim.Native.Nat.{ℕ, suc, _+_, _*_, _-_, _/_, _%_, _^_, _≤_, _<_, suc-le-suc}
 use native.Mathlib.Nat.{mul-le-mul}
 use native.Mathlib.Omega.{arith}
 use borrow.Author.Tests.{ltb-true, ltb-false}
@@ -38,7 +38,24 @@ unfolding Below
 below-map b c f s [] h = tt
 below-map b c f s (d ∷ ds) h = (s d (h .0), below-map b c f s ds (h .1))
 
--- ---- one digit
+-- ---- digits of any base, one a lane
+
+pub digits-most : (t : ℕ) → 0 < t → (k n x : ℕ) → x ≡ word 256 (last (suc t) k n) → x ≤ word 256 (replicate k t)
+digits-most t p k n x e = rw e (rw length-last at (word-most 256 t (last (suc t) k n) (last-below (suc t) (suc-le-suc p) k n)))
+
+pub each-more : (b k n x c : ℕ) → x ≡ word 256 (last b k n) → x + word 256 (replicate k c) ≡ word 256 (map (λ (d : ℕ). d + c) (last b k n))
+each-more b k n x c e =
+    let i : x ≡ word 256 (map (λ (d : ℕ). d) (last b k n)) = e ∙ ap (word 256) (sym (map-id (last b k n))) in
+    rw i (rw length-last at (word-plus 256 (λ (d : ℕ). d) c (last b k n)))
+
+pub text-bytes : (α : ℕ → ℕ) (b k n : ℕ) → 1 < b → ((d : ℕ) → d < b → α d < 256) → bytesOf k (word 256 (lastText α b k n)) ≡ lastText α b k n
+unfolding lastText
+text-bytes α b k n big small =
+    let t = map α (last b k n) in
+    let e : length t ≡ k = length-map (last b k n) α ∙ length-last b k n in
+    rw e at (bytes-word t (below-map b 256 α small (last b k n) (last-below b big k n)))
+
+-- ---- one hex digit
 
 module _ (letter : ℕ) (low : 57 < letter) where
   byte-is : (d : ℕ) → d < 16 → d + 48 + (d + 6) / 2 ^ 4 % 2 ^ 1 * (letter - 58) ≡ digitByte letter d
@@ -61,14 +78,11 @@ module _ (letter : ℕ) (low : 57 < letter) where
       go true e = rw e (omega arith)
       go false e = rw e (omega arith)
 
--- ---- all of them
+-- ---- all hex digits
 
 module _ (k n : ℕ) where
   digits-below : Below 16 (last 16 k n)
   digits-below = last-below 16 (lit< tt) k n
-
-  plus : (f : ℕ → ℕ) (x : ℕ) → word 256 (map f (last 16 k n)) + word 256 (replicate k x) ≡ word 256 (map (λ (d : ℕ). f d + x) (last 16 k n))
-  plus f x = rw length-last at (word-plus 256 f x (last 16 k n))
 
   -- the first digit beyond nine is the first that six more carry into the next bit
   tens : bitAnd (word 256 (map (λ (d : ℕ). d + 6) (last 16 k n)) / 2 ^ 4) (word 256 (replicate k 1)) ≡ word 256 (map (λ (d : ℕ). (d + 6) / 2 ^ 4 % 2 ^ 1) (last 16 k n))
@@ -84,25 +98,15 @@ module _ (k n : ℕ) where
     unfolding lastText
     text-word x e =
         let ds = last 16 k n in
-        let i : word 256 ds ≡ word 256 (map (λ (d : ℕ). d) ds) = ap (word 256) (sym (map-id ds)) in
-        let six : x + word 256 (replicate k 6) ≡ word 256 (map (λ (d : ℕ). d + 6) ds) = rw (e, i) (plus (λ (d : ℕ). d) 6) in
-        let plain : x + word 256 (replicate k 48) ≡ word 256 (map (λ (d : ℕ). d + 48) ds) = rw (e, i) (plus (λ (d : ℕ). d) 48) in
-        rw (six, plain, tens)
+        rw (each-more 16 k n x 6 e, each-more 16 k n x 48 e, tens)
         (ap (λ (y : ℕ). word 256 (map (λ (d : ℕ). d + 48) ds) + y) (word-times 256 (λ (d : ℕ). (d + 6) / 2 ^ 4 % 2 ^ 1) (letter - 58) ds)
         ∙ word-sum 256 (λ (d : ℕ). d + 48) (λ (d : ℕ). (d + 6) / 2 ^ 4 % 2 ^ 1 * (letter - 58)) ds
         ∙ ap (word 256) (map-same _ (digitByte letter) 16 (byte-is letter low) ds digits-below))
 
-    pub text-bytes : letter ≤ 250 → bytesOf k (word 256 (lastText (digitByte letter) 16 k n)) ≡ lastText (digitByte letter) 16 k n
-    unfolding lastText
-    text-bytes most =
-        let t = map (digitByte letter) (last 16 k n) in
-        let e : length t ≡ k = length-map (last 16 k n) (digitByte letter) ∙ length-last 16 k n in
-        rw e at (bytes-word t (below-map 16 256 (digitByte letter) (byte-below letter low most) (last 16 k n) digits-below))
+    pub hex-bytes : letter ≤ 250 → bytesOf k (word 256 (lastText (digitByte letter) 16 k n)) ≡ lastText (digitByte letter) 16 k n
+    hex-bytes most = text-bytes (digitByte letter) 16 k n (lit< tt) (byte-below letter low most)
 
-  pub digits-most : (x : ℕ) → x ≡ word 256 (last 16 k n) → x ≤ word 256 (replicate k 15)
-  digits-most x e = rw e (rw length-last at (word-most 256 15 (last 16 k n) digits-below))
-
--- ---- no lane runs over: m has a 1 in each
+-- no lane runs over: m has a 1 in each
 
 module _ (y m letter : ℕ) (most : letter ≤ 250) where
   pub letters-most : bitAnd y m * (letter - 58) ≤ m * 192

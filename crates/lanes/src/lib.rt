@@ -1,8 +1,8 @@
-// Hex digits side by side in a word, one a byte, the first in the lowest: four or eight of them by shifts and masks, and no loop.
+// Hex and binary digits side by side in a word, one a byte, the first in the lowest: four or eight of them at once, and no loop.
 ghost use mathlib.Core.Path.{_≡_};
 ghost use Prim.Native.Nat.{_<_, _≤_};
 ghost use Rattle.digits.specs.Digits.{last};
-ghost use Rattle.digits.specs.Text.{lastText};
+ghost use Rattle.digits.specs.Text.{ascii, lastText};
 ghost use Rattle.lanes.specs.Lanes.{word};
 ghost use Rattle.lanes.specs.Letters.{digitByte};
 ghost use Rattle.words.specs.Bytes.{bytesOf};
@@ -55,4 +55,20 @@ pub fn one(letter: u8, n: u8) -> u8
         return 48 + n;
     }
     letter + (n - 10)
+}
+
+// The eight binary digits of n. The product has n at seven places, nine bits apart: in the k-th lane its digit k stands lowest.
+fn spread_bits(n: u64) -> u64
+    requires { ⌜ n < 256 ⌝ }
+    ensures { λ r. ⌜ r ≡ word 256 (last 2 8 n) ⌝ }
+{
+    (n >> 7) + ((n * 0x0100_8040_2010_0804) & 0x0101_0101_0101_0100)
+}
+
+// Their text.
+pub fn eight_bits(n: u64) -> u64
+    requires { ⌜ n < 256 ⌝ }
+    ensures { λ r. ⌜ bytesOf 8 r ≡ lastText ascii 2 8 n ⌝ }
+{
+    spread_bits(n) + 0x3030_3030_3030_3030
 }

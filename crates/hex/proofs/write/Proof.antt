@@ -10,7 +10,7 @@ use Rattle.digits.specs.Text.{text}
 use Rattle.digits.proofs.Digits.{digits-length-gt}
 use Rattle.digits.proofs.Text.{length-text, text-small, text-some, text-most}
 use Rattle.lanes.specs.Letters.{digitByte}
-use Rattle.hex.proofs.Tails.{drop-joined, tail-ended}
+use Rattle.lanes.proofs.Tails.{drop-joined, tail-ended}
 use borrow.Author.Needs.{needs}
 use Rattle.hex.proofs.write.Statement.{statement}
 use Rattle.hex.proofs.write.Tie as tie

@@ -5,7 +5,7 @@ use native.Mathlib.Nat.{lt-of-le-of-lt}
 use native.Mathlib.Omega.{arith}
 use lib.Dec.{lit<}
 use Rattle.lanes.specs.Lanes.{word}
-use Rattle.lanes.proofs.Letters.{digits-most, letters-most, text-most, text-word, text-bytes}
+use Rattle.lanes.proofs.Letters.{digits-most, letters-most, text-most, text-word, hex-bytes}
 use Rattle.words.specs.Bytes.{bytesOf}
 use borrow.Author.Needs.{needs}
 use Rattle.lanes.proofs.eight.Statement.{statement}
@@ -13,7 +13,7 @@ use Rattle.lanes.proofs.eight.Tie as tie
 
 few : (c : tie.After-spread8) → c .spread8 .result ≤ 0x0101_0101_0101_0101 * 15
 unfolding word
-few c = digits-most 8 (c .before .args .n) (c .spread8 .result) (c .spread8 .ensures)
+few c = digits-most 15 (lit< tt) 8 (c .before .args .n) (c .spread8 .result) (c .spread8 .ensures)
 
 spread8-requires : tie.Need-spread8-requires
 spread8-requires c κs = search needs
@@ -38,7 +38,7 @@ unfolding word
 returns c =
     let a = c .before .args in
     let p = c .before .pre in
-    ap (bytesOf 8) (text-word 8 (a .n) (a .letter) (p .0) (c .spread8 .result) (c .spread8 .ensures)) ∙ text-bytes 8 (a .n) (a .letter) (p .0) (p .1)
+    ap (bytesOf 8) (text-word 8 (a .n) (a .letter) (p .0) (c .spread8 .result) (c .spread8 .ensures)) ∙ hex-bytes 8 (a .n) (a .letter) (p .0) (p .1)
 
 pub eight-spec : {M : Type 1} → statement M
 eight-spec =

@@ -5,7 +5,7 @@ use native.Mathlib.Nat.{lt-of-le-of-lt}
 use native.Mathlib.Omega.{arith}
 use lib.Dec.{lit<}
 use Rattle.lanes.specs.Lanes.{word}
-use Rattle.lanes.proofs.Letters.{digits-most, letters-most, text-most, text-word, text-bytes}
+use Rattle.lanes.proofs.Letters.{digits-most, letters-most, text-most, text-word, hex-bytes}
 use Rattle.words.specs.Bytes.{bytesOf}
 use borrow.Author.Needs.{needs}
 use Rattle.lanes.proofs.four.Statement.{statement}
@@ -13,7 +13,7 @@ use Rattle.lanes.proofs.four.Tie as tie
 
 few : (c : tie.After-spread4) → c .spread4 .result ≤ 0x0101_0101 * 15
 unfolding word
-few c = digits-most 4 (c .before .args .n) (c .spread4 .result) (c .spread4 .ensures)
+few c = digits-most 15 (lit< tt) 4 (c .before .args .n) (c .spread4 .result) (c .spread4 .ensures)
 
 spread4-requires : tie.Need-spread4-requires
 spread4-requires c κs = search needs
@@ -38,7 +38,7 @@ unfolding word
 returns c =
     let a = c .before .args in
     let p = c .before .pre in
-    ap (bytesOf 4) (text-word 4 (a .n) (a .letter) (p .0) (c .spread4 .result) (c .spread4 .ensures)) ∙ text-bytes 4 (a .n) (a .letter) (p .0) (p .1)
+    ap (bytesOf 4) (text-word 4 (a .n) (a .letter) (p .0) (c .spread4 .result) (c .spread4 .ensures)) ∙ hex-bytes 4 (a .n) (a .letter) (p .0) (p .1)
 
 pub four-spec : {M : Type 1} → statement M
 four-spec =

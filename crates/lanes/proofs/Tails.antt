@@ -30,7 +30,7 @@ module _ (α : ℕ → ℕ) (b : ℕ) (big : 1 < b) where
 
   -- k digits of which z are zeros in front
   module _ (l : List ℕ) (end n k z : ℕ) (e : z + length (text α b n) ≡ k) where
-    dropped : drop z (lastText α b k n) ≡ text α b n
+    pub dropped : drop z (lastText α b k n) ≡ text α b n
     dropped = rw (← e) (last-drop z (length (text α b n)) n ∙ text-whole n)
 
     pub tail-ended : {m : List ℕ} {r : ℕ} → length (text α b n) ≤ end → end ≤ length l → r ≡ end + z - k → m ≡ sets l r (drop z (lastText α b k n)) →
