@@ -10,6 +10,7 @@ use Rattle.buffer.specs.AtEnd.{ended}
 use Rattle.buffer.proofs.AtEnd.{ended-sets}
 use Rattle.digits.specs.Digits.{last}
 use Rattle.digits.specs.Text.{text, lastText}
+use Rattle.digits.proofs.Digits.{digits-length-gt}
 use Rattle.digits.proofs.Last.{digits-last}
 use Rattle.digits.proofs.Text.{length-text, length-lastText, lastText-split, lastText-mod}
 
@@ -21,6 +22,10 @@ module _ (α : ℕ → ℕ) (b : ℕ) (big : 1 < b) where
 
   last-drop : (z k n : ℕ) → drop z (lastText α b (z + k) n) ≡ lastText α b k n
   last-drop z k n = rw (lastText-split α b z k n) (drop-at (lastText α b z (n / b ^ k)) (lastText α b k n) z (length-lastText α b z (n / b ^ k)))
+
+  -- from a power that n reaches
+  pub text-more : (k n : ℕ) → b ^ k ≤ n → k < length (text α b n)
+  text-more k n h = rw (length-text α b big n) (digits-length-gt b big k n h)
 
   -- of two runs of digits, one behind the other
   pub drop-joined : (z j k n : ℕ) → z ≤ j → drop z (lastText α b j (n / b ^ k)) ++ lastText α b k (n % b ^ k) ≡ drop z (lastText α b (j + k) n)

@@ -1,30 +1,21 @@
 -- `hex::write` meets its contract: one digit, or the last four, eight or sixteen without the zeros in front. Assumes nothing.
 use mathlib.Core.Path.{_≡_, refl}
 use mathlib.Core.List.{[], _∷_}
-use Prim.Native.Nat.{ℕ, _+_, _-_, _^_, _≤_, _<_}
+use Prim.Native.Nat.{ℕ, _+_, _-_, _≤_, _<_}
 use native.Mathlib.Omega.{arith}
 use lib.Dec.{lit<}
 use lib.ListN.{length}
 use Rattle.buffer.proofs.AtEnd.{ended-sets}
 use Rattle.digits.specs.Text.{text}
-use Rattle.digits.proofs.Digits.{digits-length-gt}
 use Rattle.digits.proofs.Text.{length-text, text-small, text-some, text-most}
 use Rattle.lanes.specs.Letters.{digitByte}
-use Rattle.lanes.proofs.Tails.{drop-joined, tail-ended}
+use Rattle.lanes.proofs.Tails.{text-more, drop-joined, tail-ended}
 use borrow.Author.Needs.{needs}
 use Rattle.hex.proofs.write.Statement.{statement}
 use Rattle.hex.proofs.write.Tie as tie
 
 hex : 1 < 16
 hex = lit< tt
-
--- how long the text is, by the powers that n reaches and does not reach
-module _ (letter n : ℕ) where
-  few : (k : ℕ) → 0 < k → n < 16 ^ k → length (text (digitByte letter) 16 n) ≤ k
-  few k p h = text-most (digitByte letter) 16 hex k n p h
-
-  many : (k : ℕ) → 16 ^ k ≤ n → k < length (text (digitByte letter) 16 n)
-  many k h = rw (length-text (digitByte letter) 16 hex n) (digits-length-gt 16 hex k n h)
 
 abbrev Long : tie.After-zeros → ℕ
 Long c = let a = c .before .before .before .args in length (text (digitByte (a .letter)) 16 (a .n))
@@ -71,7 +62,7 @@ zeros-requires c κs = search needs
 in-four : (c : tie.Then2) → (Long (c .before) ≤ 4) × (1 < Long (c .before))
 in-four c =
     let a = c .before .before .before .before .args in
-    (few (a .letter) (a .n) 4 (lit< tt) (c .if2 .taken), many (a .letter) (a .n) 1 (c .before .before .if1 .left))
+    (text-most (digitByte (a .letter)) 16 hex 4 (a .n) (lit< tt) (c .if2 .taken), text-more (digitByte (a .letter)) 16 hex 1 (a .n) (c .before .before .if1 .left))
 
 cast-four : tie.Need-cast-four
 cast-four c = search needs
@@ -108,7 +99,7 @@ returns-2 c =
 in-eight : (c : tie.Then3) → (Long (c .before .before) ≤ 8) × (4 < Long (c .before .before))
 in-eight c =
     let a = c .before .before .before .before .before .args in
-    (few (a .letter) (a .n) 8 (lit< tt) (c .if3 .taken), many (a .letter) (a .n) 4 (c .before .if2 .left))
+    (text-most (digitByte (a .letter)) 16 hex 8 (a .n) (lit< tt) (c .if3 .taken), text-more (digitByte (a .letter)) 16 hex 4 (a .n) (c .before .if2 .left))
 
 eight-requires : tie.Need-eight-requires
 eight-requires c κs = search needs
@@ -142,7 +133,7 @@ returns-3 c =
 in-sixteen : (c : tie.Else3) → c .before .before .zeros .result ≤ 7
 in-sixteen c =
     let a = c .before .before .before .before .before .args in
-    omega (arith, counted (c .before .before), many (a .letter) (a .n) 8 (c .if3 .left))
+    omega (arith, counted (c .before .before), text-more (digitByte (a .letter)) 16 hex 8 (a .n) (c .if3 .left))
 
 eight-requires-2 : tie.Need-eight-requires-2
 eight-requires-2 c κs = search needs
