@@ -1,6 +1,6 @@
 // Binary, octal, lower and upper hex, and their lengths before a byte is written.
 // Carries over radix_integer! of fmt/num.rs: one writer over the bits of a digit and the table of digits, right to left, two digits a turn.
-// Hex has a faster one of its own, the crate hex.
+// Hex, and binary of more than four digits, have faster ones of their own: the crates hex and binary.
 ghost use mathlib.Core.Path.{_≡_};
 ghost use Prim.Native.Nat.{_+_, _-_, _%_, _^_, _<_, _≤_};
 ghost use lib.ListN.{length};
@@ -74,7 +74,10 @@ pub fn write_binary(n: u64, buf: &mut [u8], end: usize) -> usize
     requires { ⌜ (length (text lower 2 n) ≤ end) × (end ≤ length (now buf)) ⌝ }
     ensures { λ r. ⌜ (r ≡ end - length (text lower 2 n)) × (now (buf .exit) ≡ ended (now (buf .entry)) end (text lower 2 n)) ⌝ }
 {
-    write_digits(1, n, buf, end)
+    if n < 16 {
+        return write_digits(1, n, buf, end);
+    }
+    binary::write(n, buf, end)
 }
 
 pub fn write_octal(n: u64, buf: &mut [u8], end: usize) -> usize
