@@ -1,7 +1,7 @@
 -- `reader::read_decimal` meets its contract. Assumes nothing.
 use mathlib.Core.Path.{subst}
 use Rattle.radix.specs.Radix.{lower}
-use Rattle.reader.specs.Runs.{FoundOf}
+use Rattle.whole_texts.specs.Wholes.{FoundOf}
 use Rattle.reader.proofs.Answers.{minus-signed, minus-some, decimal-over, decimal-held}
 use borrow.Author.Needs.{needs}
 use Rattle.reader.proofs.read_decimal.Statement.{statement}
