@@ -1,0 +1,113 @@
+-- `words::put8` meets its contract: eight stores side by side. Assumes nothing.
+use native.Mathlib.Numerals.{add-one, add-two, add-three, add-four, add-five, add-six, add-seven}
+use native.Mathlib.Omega.{arith}
+use lib.ListN.{length-set}
+use Rattle.words.proofs.Bytes.{bytes-eight}
+use borrow.Author.Needs.{needs}
+use Rattle.words.proofs.put8.Statement.{statement}
+use Rattle.words.proofs.put8.Tie as tie
+
+cast-buf : tie.Need-cast-buf
+cast-buf c = search needs
+
+slice-write-buf : tie.Need-slice-write-buf
+slice-write-buf c = search needs
+
+cast-buf-2 : tie.Need-cast-buf-2
+cast-buf-2 c = search needs
+
+add-buf : tie.Need-add-buf
+add-buf c = search needs
+
+slice-write-buf-2 : tie.Need-slice-write-buf-2
+slice-write-buf-2 c = simp length-set (omega arith)
+
+cast-buf-3 : tie.Need-cast-buf-3
+cast-buf-3 c = search needs
+
+add-buf-2 : tie.Need-add-buf-2
+add-buf-2 c = search needs
+
+slice-write-buf-3 : tie.Need-slice-write-buf-3
+slice-write-buf-3 c = simp length-set (omega arith)
+
+cast-buf-4 : tie.Need-cast-buf-4
+cast-buf-4 c = search needs
+
+add-buf-3 : tie.Need-add-buf-3
+add-buf-3 c = search needs
+
+slice-write-buf-4 : tie.Need-slice-write-buf-4
+slice-write-buf-4 c = simp length-set (omega arith)
+
+cast-buf-5 : tie.Need-cast-buf-5
+cast-buf-5 c = search needs
+
+add-buf-4 : tie.Need-add-buf-4
+add-buf-4 c = search needs
+
+slice-write-buf-5 : tie.Need-slice-write-buf-5
+slice-write-buf-5 c = simp length-set (omega arith)
+
+cast-buf-6 : tie.Need-cast-buf-6
+cast-buf-6 c = search needs
+
+add-buf-5 : tie.Need-add-buf-5
+add-buf-5 c = search needs
+
+slice-write-buf-6 : tie.Need-slice-write-buf-6
+slice-write-buf-6 c = simp length-set (omega arith)
+
+cast-buf-7 : tie.Need-cast-buf-7
+cast-buf-7 c = search needs
+
+add-buf-6 : tie.Need-add-buf-6
+add-buf-6 c = search needs
+
+slice-write-buf-7 : tie.Need-slice-write-buf-7
+slice-write-buf-7 c = simp length-set (omega arith)
+
+cast-buf-8 : tie.Need-cast-buf-8
+cast-buf-8 c = search needs
+
+add-buf-7 : tie.Need-add-buf-7
+add-buf-7 c = search needs
+
+slice-write-buf-8 : tie.Need-slice-write-buf-8
+slice-write-buf-8 c = simp length-set (omega arith)
+
+same-length : tie.Need-same-length
+same-length c = search needs
+
+returns : tie.Need-returns
+returns c = rw (bytes-eight, add-one, add-two, add-three, add-four, add-five, add-six, add-seven)
+
+pub put8-spec : {M : Type 1} → statement M
+put8-spec =
+    tie.close
+    (tie.spec
+    cast-buf
+    slice-write-buf
+    cast-buf-2
+    add-buf
+    slice-write-buf-2
+    cast-buf-3
+    add-buf-2
+    slice-write-buf-3
+    cast-buf-4
+    add-buf-3
+    slice-write-buf-4
+    cast-buf-5
+    add-buf-4
+    slice-write-buf-5
+    cast-buf-6
+    add-buf-5
+    slice-write-buf-6
+    cast-buf-7
+    add-buf-6
+    slice-write-buf-7
+    cast-buf-8
+    add-buf-7
+    slice-write-buf-8
+    same-length
+    returns)

@@ -1,0 +1,2 @@
+-- The bytes of a word. The contracts of every store and load of a word cite these.
+pub mod Bytes
