@@ -7,15 +7,27 @@ use Prim.Native.Nat.{ℕ, _+_, _-_, _*_, _/_, _%_, _^_, _≤_, _<_}
 use native.Mathlib.Nat.{le-trans, le-add-right, le-mul-of-pos-right, mul-le-mul-right, div-add-mod', mod-lt}
 use native.Mathlib.Numerals.{add-one}
 use native.Mathlib.Omega.{arith}
-use borrow.Author.Tests.{ltb-true, ltb-false}
+use borrow.Author.Tests.{ltb-true, ltb-false, lt-ltb}
 use lib.Dec.{ltb}
 use lib.ListN.{length, getD, drop}
 use lib.Seq.{drop-cons}
 use Rattle.digits.specs.Digits.{valueFrom, Below}
+use Rattle.digits.specs.Text.{ascii}
 use Rattle.digits.proofs.Digits.{Below-snoc, valueFrom-append}
-use Rattle.radix.specs.Radix.{digitByte}
+use Rattle.radix.specs.Radix.{digitByte, lower}
+use Rattle.radix.proofs.Table.{map-same}
 use Rattle.scientific.specs.Shape.{sign}
 use Rattle.digit_runs.specs.Runs.{IsDigit, Digits, DigitRun, Scanned, Front}
+
+-- ---- decimal digits need no letters
+
+pub figure : (d : ℕ) → d < 10 → lower d ≡ ascii d
+figure d h = rw (lt-ltb d 10 h)
+
+pub figures : (ds : List ℕ) → Below 10 ds → map lower ds ≡ map ascii ds
+figures ds h = map-same lower ascii 10 figure ds h
+
+-- ---- a digit
 
 -- a digit below 10 is known by its figure, one from 10 on by its letter
 pub is-digit : (letter byte r : ℕ) → (r < 10 → 48 + r ≡ byte) → (10 ≤ r → r < 16 → letter + (r - 10) ≡ byte)

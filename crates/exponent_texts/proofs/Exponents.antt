@@ -22,15 +22,7 @@ use Rattle.reading.proofs.Exponent.{Figure}
 use Rattle.digit_runs.specs.Runs.{Digits}
 use Rattle.exponent_texts.specs.Exponents.{AtMostTwo, Rules, Tells, Product}
 use Rattle.exponent_texts.specs.declared.Short.{Short}
-use Rattle.digit_runs.proofs.Runs.{Sofar}
-
--- ---- decimal digits need no letters
-
-pub figure : (d : ℕ) → d < 10 → lower d ≡ ascii d
-figure d h = rw (lt-ltb d 10 h)
-
-pub figures : (ds : List ℕ) → Below 10 ds → map lower ds ≡ map ascii ds
-figures ds h = map-same lower ascii 10 figure ds h
+use Rattle.digit_runs.proofs.Runs.{figure, Sofar}
 
 -- digits are as many as their places
 pub digits-length : {α : ℕ → ℕ} {b : ℕ} {t : List ℕ} {from to : ℕ} (D : Digits α b t from to) → from ≤ length t → from + length (D .digits) ≡ to

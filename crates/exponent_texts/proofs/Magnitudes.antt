@@ -20,7 +20,8 @@ use Rattle.exponent_texts.specs.Exponents.{IsCoefficient, AtMostTwo, Rul
 use Rattle.exponent_texts.specs.declared.Short.{Short}
 use Rattle.exponent_texts.specs.declared.Held.{Held}
 use Rattle.whole_texts.proofs.Texts.{empty, first, value-lead}
-use Rattle.exponent_texts.proofs.Exponents.{figures, digits-length, no-figure, ends-at, two-small}
+use Rattle.digit_runs.proofs.Runs.{figures}
+use Rattle.exponent_texts.proofs.Exponents.{digits-length, no-figure, ends-at, two-small}
 
 fraction-some : (fs : List ℕ) → length (fraction fs) - 1 ≡ length fs
 unfolding fraction

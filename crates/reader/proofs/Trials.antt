@@ -25,7 +25,7 @@ use Rattle.whole_texts.specs.Wholes.{IsNumber}
 use Rattle.exponent_texts.specs.Exponents.{IsExponent}
 use Rattle.outcomes.specs.declared.Outcome.the-variants as outcome
 use Rattle.reader.proofs.Answers.{decimal-held, exponent-held}
-use Rattle.exponent_texts.proofs.Exponents.{figure}
+use Rattle.digit_runs.proofs.Runs.{figure}
 use Rattle.reader.proofs.Outcomes.{read-plain}
 
 pub record Trials : Type 0 where

@@ -6,13 +6,13 @@ ghost use lib.ListN.{length};
 ghost use Rattle.radix.specs.Radix.{digitByte};
 ghost use Rattle.reading.specs.Formats.{decimalForm, radixForm, exponentForm, form};
 ghost use Rattle.reader.specs.Answers.{Answers, Judges};
-use digit_runs::TENTH;
 use exponent_texts::find_exponent;
 use kinds::Kind;
 use outcomes::Outcome;
 use outcomes::of_magnitude;
 use outcomes::of_pattern;
 use whole_texts::Found;
+use whole_texts::find_decimal;
 use whole_texts::find_whole;
 
 // A decimal text.
@@ -20,7 +20,7 @@ fn read_decimal(signed: bool, bits: u32, text: &[u8]) -> Outcome
     requires { ⌜ (1 ≤ bits) × (bits ≤ 64) × (0 < length (now text)) ⌝ }
     ensures { λ r. ⌜ Judges (decimalForm signed) signed bits (now (text .entry)) r ⌝ }
 {
-    match find_whole(text, signed, 10, TENTH, b'a') {
+    match find_decimal(text, signed) {
         Found::Wrong(k) => Outcome::Shape(k),
         Found::Broken => Outcome::NotCanonical,
         Found::Number { minus, value, over } => {

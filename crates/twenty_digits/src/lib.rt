@@ -123,7 +123,7 @@ fn up_to_twenty(text: &[u8]) -> u64
 
 // The number of a text of digits, or NONE.
 pub fn number_of(text: &[u8]) -> u64
-    ensures { λ r. ⌜ ((r ≡ 0xffff_ffff_ffff_ffff → ⊥) → Number (now (text .entry)) r) ⌝ }
+    ensures { λ r. ⌜ ((r ≡ 0xffff_ffff_ffff_ffff → ⊥) → (0 < length (now (text .entry))) × Number (now (text .entry)) r) ⌝ }
 {
     let n = text.len();
     if 8 < n {
