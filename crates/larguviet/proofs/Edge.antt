@@ -4,7 +4,7 @@ use mathlib.Core.Bool.{Bool}
 use mathlib.Core.List.{List}
 use mathlib.Core.Path.{_≡_, sym, ap, _∙_}
 use Prim.Native.Nat.{ℕ}
-use Rattle.reader.specs.Answers.{numberOf, valueOf}
+use Rattle.outcomes.specs.Outcomes.{numberOf, valueOf}
 use Rattle.reader.proofs.Outcomes as Outcomes
 use Rattle.writing.specs.Promise.{number, value, Writes}
 use Rattle.writing.specs.declared.Written.{Written}

@@ -7,8 +7,8 @@ use lib.Dec.{eqb}
 use Rattle.exponent.specs.declared.Precision.{Precision}
 use Rattle.exponent.specs.declared.Precision.the-variants.{None, Digits}
 use Rattle.reader.specs.Answers as reader
-use Rattle.reader.specs.Answers.{numberOf, valueOf}
-use Rattle.reader.specs.declared.Outcome.{Outcome}
+use Rattle.outcomes.specs.Outcomes.{numberOf, valueOf}
+use Rattle.outcomes.specs.declared.Outcome.{Outcome}
 use Rattle.writing.specs.Promise.{number, value, after}
 use Rattle.writing.specs.declared.Options.{Options}
 use Rattle.writing.specs.declared.Written.{Written}

@@ -23,11 +23,12 @@ use Rattle.scientific.proofs.Tens as T
 use Rattle.reading.specs.Form.{Form, Reads}
 use Rattle.reading.specs.Formats.{whole, decimalForm, radixForm, exponentForm}
 use Rattle.reading.proofs.Faithful.{sign-of, natAbs-lt, pattern-lt}
-use Rattle.reader.specs.Answers.{Judges, ofValue, ofPattern}
-use Rattle.reader.specs.Runs.{IsNumber}
-use Rattle.reader.specs.Exponents.{IsExponent}
-use Rattle.reader.specs.declared.Outcome.{Outcome}
-use Rattle.reader.specs.declared.Outcome.the-variants as outcome
+use Rattle.reader.specs.Answers.{Judges}
+use Rattle.outcomes.specs.Outcomes.{ofValue, ofPattern}
+use Rattle.whole_texts.specs.Wholes.{IsNumber}
+use Rattle.exponent_texts.specs.Exponents.{IsExponent}
+use Rattle.outcomes.specs.declared.Outcome.{Outcome}
+use Rattle.outcomes.specs.declared.Outcome.the-variants as outcome
 
 module _ (sgn : Bool) (bits : ℕ) (t : List ℕ) (one : 1 ≤ bits) (few : bits ≤ 64) where
   wide : 2 ^ bits ≤ 2 ^ 64

@@ -17,9 +17,10 @@ use Rattle.reading.specs.Formats.{form, plain}
 use Rattle.reading.proofs.Place.{one-place}
 use Rattle.reading.proofs.Faithful.{Faithful, faithful, plain-some}
 use Rattle.reading.proofs.Judged.{plain-accepted, accepted-plain, one-value, not-both, not-outside}
-use Rattle.reader.specs.Answers.{Judges, Passes, Answers, numberOf}
-use Rattle.reader.specs.declared.Outcome.{Outcome}
-use Rattle.reader.specs.declared.Outcome.the-variants as outcome
+use Rattle.reader.specs.Answers.{Judges, Passes, Answers}
+use Rattle.outcomes.specs.Outcomes.{numberOf}
+use Rattle.outcomes.specs.declared.Outcome.{Outcome}
+use Rattle.outcomes.specs.declared.Outcome.the-variants as outcome
 
 -- a known type has 8 to 64 bits
 pub known-bits : (bits : ℕ) → known bits ≡ true → (1 ≤ bits) × (bits ≤ 64)

@@ -21,11 +21,11 @@ use Rattle.reading.proofs.Exponent as E
 use Rattle.reading.proofs.Faithful.{letters-alphabet}
 use Rattle.reading.proofs.Whole.{Alphabet, place-stop, place-none, digits-canonical}
 use Rattle.reader.specs.Answers.{Answers}
-use Rattle.reader.specs.Runs.{IsNumber}
-use Rattle.reader.specs.Exponents.{IsExponent}
-use Rattle.reader.specs.declared.Outcome.the-variants as outcome
+use Rattle.whole_texts.specs.Wholes.{IsNumber}
+use Rattle.exponent_texts.specs.Exponents.{IsExponent}
+use Rattle.outcomes.specs.declared.Outcome.the-variants as outcome
 use Rattle.reader.proofs.Answers.{decimal-held, exponent-held}
-use Rattle.reader.proofs.Exponents.{figure}
+use Rattle.digit_runs.proofs.Runs.{figure}
 use Rattle.reader.proofs.Outcomes.{read-plain}
 
 pub record Trials : Type 0 where

@@ -1,17 +1,15 @@
--- The one answer to reading a text, in document 01's order 5, 6 (format only), 1, 2, 3, 4; its number and what it returns.
-use mathlib.Core.Bool.{Bool, true, false, cond}
+-- The one answer to reading a text, in document 01's order 5, 6 (format only), 1, 2, 3, 4.
+use mathlib.Core.Bool.{Bool, true, false}
 use mathlib.Core.List.{List, []}
 use mathlib.Core.Path.{_≡_}
-use Prim.Native.Nat.{ℕ, _^_, _≤_, _<_}
-use lib.Dec.{ltb}
-use lib.IntN.{ℤ}
+use Prim.Native.Nat.{ℕ, _≤_, _<_}
 use lib.ListN.{length}
-use Rattle.kinds.specs.Kinds.{known, inType, pattern, meaning}
+use Rattle.kinds.specs.Kinds.{known}
 use Rattle.reading.specs.Form.{Form, Place}
 use Rattle.reading.specs.Formats.{form}
 use Rattle.reading.specs.Judged as judged
-use Rattle.reader.specs.declared.Outcome.{Outcome}
-use Rattle.reader.specs.declared.Outcome.the-variants as outcome
+use Rattle.outcomes.specs.declared.Outcome.{Outcome}
+use Rattle.outcomes.specs.declared.Outcome.the-variants as outcome
 
 -- What is answered of a text that is not empty, in a format.
 abbrev pub Judges : Form → Bool → ℕ → List ℕ → Outcome → Type 0
@@ -39,30 +37,3 @@ Answers sgn bits format t (outcome.Shape k) = Passes sgn bits format t (outcome.
 Answers sgn bits format t outcome.NotCanonical = Passes sgn bits format t outcome.NotCanonical
 Answers sgn bits format t outcome.Range = Passes sgn bits format t outcome.Range
 Answers sgn bits format t (outcome.Done v) = Passes sgn bits format t (outcome.Done v)
-
--- Document 01's number of each answer, and what it returns.
-abbrev pub numberOf : Outcome → ℕ
-numberOf (outcome.Done v) = 0
-numberOf outcome.Empty = 1
-numberOf (outcome.Shape k) = 2
-numberOf outcome.NotCanonical = 3
-numberOf outcome.Range = 4
-numberOf outcome.TypeRefused = 5
-numberOf outcome.OptionsRefused = 6
-
-abbrev pub valueOf : Outcome → ℕ
-valueOf (outcome.Done v) = v
-valueOf outcome.Empty = 0
-valueOf (outcome.Shape k) = k
-valueOf outcome.NotCanonical = 0
-valueOf outcome.Range = 0
-valueOf outcome.TypeRefused = 0
-valueOf outcome.OptionsRefused = 0
-
--- The answer for the number z that a canonical text stands for.
-abbrev pub ofValue : Bool → ℕ → ℤ → Outcome
-ofValue sgn bits z = cond (inType sgn bits z) (outcome.Done (pattern 64 z)) outcome.Range
-
--- The answer for a pattern of the type's bits; one beyond them is RANGE.
-abbrev pub ofPattern : Bool → ℕ → ℕ → Outcome
-ofPattern sgn bits p = cond (ltb p (2 ^ bits)) (outcome.Done (pattern 64 (meaning bits sgn p))) outcome.Range

@@ -1,4 +1,2 @@
--- What the reader answers, and what its code finds on the way.
+-- What the reader answers.
 pub mod Answers
-pub mod Runs
-pub mod Exponents

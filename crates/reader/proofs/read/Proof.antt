@@ -1,7 +1,7 @@
 -- `reader::read` meets its contract. Assumes nothing.
 use mathlib.Core.Path.{sym, _∙_}
 use native.Mathlib.Omega.{arith}
-use Rattle.reader.proofs.Texts.{empty}
+use Rattle.whole_texts.proofs.Texts.{empty}
 use Rattle.reader.proofs.Outcomes.{known-bits, passed}
 use borrow.Author.Needs.{needs}
 use Rattle.reader.proofs.read.Statement.{statement}

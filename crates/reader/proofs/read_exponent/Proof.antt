@@ -1,6 +1,6 @@
 -- `reader::read_exponent` meets its contract. Assumes nothing.
 use mathlib.Core.Path.{subst}
-use Rattle.reader.specs.Exponents.{ExponentOf}
+use Rattle.exponent_texts.specs.Exponents.{ExponentOf}
 use Rattle.reader.proofs.Answers.{exponent-signed, exponent-some, exponent-over, exponent-held}
 use borrow.Author.Needs.{needs}
 use Rattle.reader.proofs.read_exponent.Statement.{statement}

@@ -2,7 +2,7 @@
 use mathlib.Core.Bool.{false}
 use mathlib.Core.Path.{subst}
 use Rattle.radix.specs.Radix.{digitByte}
-use Rattle.reader.specs.Runs.{FoundOf}
+use Rattle.whole_texts.specs.Wholes.{FoundOf}
 use Rattle.reader.proofs.Answers.{radix-over, radix-held}
 use borrow.Author.Needs.{needs}
 use Rattle.reader.proofs.read_radix.Statement.{statement}

@@ -1,0 +1,2 @@
+-- What is found of a run of digits.
+pub mod Runs

@@ -1,0 +1,90 @@
+-- A word of digits shifted: zeros stand in front of the digits that are left, and the number is theirs.
+-- Assumes nothing.
+use mathlib.Core.List.{List, [], _∷_, _++_, append-assoc}
+use mathlib.Core.Path.{_≡_, refl, sym, ap, ap₂, _∙_, subst}
+use Prim.Native.Nat.{ℕ, zero, suc, _+_, _*_, _-_, _/_, _%_, _^_, _<_, _≤_}
+use native.Mathlib.Nat.{add-comm, suc-mul, pow-suc, mod-lt}
+use native.Mathlib.Omega.{arith}
+use lib.Dec.{lit<}
+use lib.ListN.{take, drop, replicate}
+use lib.Pow.{pow-add}
+use lib.Seq.{take-take}
+use Rattle.digits.specs.Digits.{value, valueFrom, Below}
+use Rattle.words.specs.Bytes.{bytesOf}
+use Rattle.words.proofs.Joined.{bytes-join, bytes-take, bytes-drop, bytes-low, bytes-shifted}
+
+-- ---- digits left out, put in front, put together
+
+pub Below-take : (b j : ℕ) (ds : List ℕ) → Below b ds → Below b (take j ds)
+unfolding Below
+Below-take b zero ds h = tt
+Below-take b (suc j) [] h = tt
+Below-take b (suc j) (d ∷ ds) h = (h .0, Below-take b j ds (h .1))
+
+Below-drop : (b j : ℕ) (ds : List ℕ) → Below b ds → Below b (drop j ds)
+unfolding Below
+Below-drop b zero ds h = h
+Below-drop b (suc j) [] h = tt
+Below-drop b (suc j) (d ∷ ds) h = Below-drop b j ds (h .1)
+
+pub Below-append : (b : ℕ) (xs ys : List ℕ) → Below b xs → Below b ys → Below b (xs ++ ys)
+unfolding Below
+Below-append b [] ys p q = q
+Below-append b (x ∷ xs) ys p q = (p .0, Below-append b xs ys (p .1) q)
+
+Below-zeros : (k : ℕ) (ds : List ℕ) → Below 10 ds → Below 10 (replicate k 0 ++ ds)
+unfolding Below
+Below-zeros zero ds h = h
+Below-zeros (suc k) ds h = (lit< tt, Below-zeros k ds h)
+
+pub value-zeros : (k : ℕ) (ds : List ℕ) → value 10 (replicate k 0 ++ ds) ≡ value 10 ds
+unfolding value valueFrom
+value-zeros zero ds = refl
+value-zeros (suc k) ds = value-zeros k ds
+
+-- a word whose bytes are zeros and then digits
+module _ (x k : ℕ) (ds : List ℕ) (e : bytesOf 8 x ≡ replicate k 0 ++ ds) where
+  pub padded-below : Below 10 ds → Below 10 (bytesOf 8 x)
+  padded-below h = subst (Below 10) (sym e) (Below-zeros k ds h)
+
+  pub padded-value : value 10 (bytesOf 8 x) ≡ value 10 ds
+  padded-value = ap (value 10) e ∙ value-zeros k ds
+
+-- ---- the shifts of the code
+
+pow-bytes : (k : ℕ) → 2 ^ (k * 8) ≡ 256 ^ k
+pow-bytes zero = refl
+pow-bytes (suc k) = ap (λ (y : ℕ). 2 ^ y) (suc-mul k 8) ∙ pow-add 2 (k * 8) 8 ∙ ap (λ (y : ℕ). y * 256) (pow-bytes k) ∙ sym (pow-suc 256 k)
+
+-- n bytes, k of them shifted out
+shifted : (n k w : ℕ) → k ≤ n → bytesOf n (w * 2 ^ (k * 8)) ≡ replicate k 0 ++ take (n - k) (bytesOf n w)
+shifted n k w h =
+    let e : k + (n - k) ≡ n = omega arith in
+    let f : n - k + k ≡ n = omega arith in
+    ap₂ bytesOf (sym e) (ap (λ (y : ℕ). w * y) (pow-bytes k)) ∙ bytes-shifted k (n - k) w
+    ∙ ap (λ (l : List ℕ). replicate k 0 ++ l) (sym (bytes-take (n - k) k w) ∙ ap (λ (i : ℕ). take (n - k) (bytesOf i w)) f)
+
+-- the lowest n bytes of a shifted word of n + m
+pub low : (n m k w : ℕ) → k ≤ n → bytesOf n (w * 2 ^ (k * 8) % 256 ^ (n + m) % 256 ^ n) ≡ replicate k 0 ++ take (n - k) (bytesOf n w)
+low n m k w h =
+    let x = w * 2 ^ (k * 8) in
+    bytes-low n (x % 256 ^ (n + m)) ∙ sym (bytes-take n m (x % 256 ^ (n + m))) ∙ ap (take n) (bytes-low (n + m) x) ∙ bytes-take n m x ∙ shifted n k w h
+
+module _ (w k : ℕ) where
+  pub before : k < 8 → bytesOf 8 (w * 2 ^ (k * 8) % 2 ^ 64) ≡ replicate k 0 ++ take (8 - k) (bytesOf 8 w)
+  before h = bytes-low 8 (w * 2 ^ (k * 8)) ∙ shifted 8 k w (omega arith)
+
+  first-four : k ≤ 4 → bytesOf 4 (w * 2 ^ (k * 8) % 2 ^ 64 % 2 ^ 32) ≡ replicate k 0 ++ take (4 - k) (bytesOf 8 w)
+  first-four h =
+      low 4 4 k w h
+      ∙ ap (λ (l : List ℕ). replicate k 0 ++ l) (ap (take (4 - k)) (sym (bytes-take 4 4 w)) ∙ take-take (4 - k) 4 (bytesOf 8 w) (omega arith))
+
+  pub around : k ≤ 4 → bytesOf 8 (w * 2 ^ (k * 8) % 2 ^ 64 % 2 ^ 32 + w / 2 ^ 32 * 2 ^ 32) ≡ replicate k 0 ++ (take (4 - k) (bytesOf 8 w) ++ drop 4 (bytesOf 8 w))
+  around h =
+      let x = w * 2 ^ (k * 8) % 2 ^ 64 % 2 ^ 32 in
+      let e : x + w / 2 ^ 32 * 2 ^ 32 ≡ w / 2 ^ 32 * 2 ^ 32 + x = add-comm x (w / 2 ^ 32 * 2 ^ 32) in
+      ap (bytesOf 8) e ∙ bytes-join 4 4 x (w / 2 ^ 32) (mod-lt (w * 2 ^ (k * 8) % 2 ^ 64) (lit< tt)) ∙ ap₂ (λ (a b : List ℕ). a ++ b) (first-four h) (sym (bytes-drop 4 4 w))
+      ∙ append-assoc (replicate k 0) (take (4 - k) (bytesOf 8 w)) (drop 4 (bytesOf 8 w))
+
+  pub around-below : Below 10 (bytesOf 8 w) → Below 10 (take (4 - k) (bytesOf 8 w) ++ drop 4 (bytesOf 8 w))
+  around-below h = Below-append 10 (take (4 - k) (bytesOf 8 w)) (drop 4 (bytesOf 8 w)) (Below-take 10 (4 - k) (bytesOf 8 w) h) (Below-drop 10 4 (bytesOf 8 w) h)

@@ -1,0 +1,51 @@
+// Eight decimal digits at a time in a word, the first in the lowest byte: whether a word of bytes is one of digits, and the number that they stand for.
+ghost use mathlib.Core.Path.{_≡_};
+ghost use mathlib.Core.List.{_++_};
+ghost use Prim.Native.Nat.{_-_, _≤_, _<_};
+ghost use lib.ListN.{take, drop};
+ghost use Rattle.digits.specs.Digits.{value, Below};
+ghost use Rattle.words.specs.Bytes.{bytesOf};
+ghost use Rattle.digit_words.specs.Words.{Figures};
+
+// No word of digits, and no number: the greatest of 64 bits.
+pub const NONE: u64 = 0xffff_ffff_ffff_ffff;
+
+// The digits of eight bytes, or NONE where one is no digit.
+pub fn figures(u: u64) -> u64
+    ensures { λ r. ⌜ ((r ≡ 0xffff_ffff_ffff_ffff → ⊥) → Figures u r) ⌝ }
+{
+    if u & 0xf0f0_f0f0_f0f0_f0f0 != 0x3030_3030_3030_3030 {
+        return NONE;
+    }
+    let w = u - 0x3030_3030_3030_3030;
+    if (w + 0x0606_0606_0606_0606) & 0xf0f0_f0f0_f0f0_f0f0 != 0 {
+        return NONE;
+    }
+    w
+}
+
+// The number of eight digits: in pairs, in fours, and all.
+pub fn number(w: u64) -> u64
+    requires { ⌜ Below 10 (bytesOf 8 w) ⌝ }
+    ensures { λ r. ⌜ (r ≡ value 10 (bytesOf 8 w)) × (r < 100000000) ⌝ }
+{
+    let p = (w * 10 + (w >> 8)) & 0x00ff_00ff_00ff_00ff;
+    let q = (p * 100 + (p >> 16)) & 0x0000_ffff_0000_ffff;
+    (q % 4294967296) * 10000 + (q >> 32)
+}
+
+// The number of the first digits, without the last k.
+pub fn number_before(w: u64, k: usize) -> u64
+    requires { ⌜ (Below 10 (bytesOf 8 w)) × (k < 8) ⌝ }
+    ensures { λ r. ⌜ (r ≡ value 10 (take (8 - k) (bytesOf 8 w))) × (r < 100000000) ⌝ }
+{
+    number(w << (k * 8))
+}
+
+// The number of the first four digits without the last k of them, and the second four behind.
+pub fn number_around(w: u64, k: usize) -> u64
+    requires { ⌜ (Below 10 (bytesOf 8 w)) × (k ≤ 4) ⌝ }
+    ensures { λ r. ⌜ r ≡ value 10 (take (4 - k) (bytesOf 8 w) ++ drop 4 (bytesOf 8 w)) ⌝ }
+{
+    number((w << (k * 8)) % 4294967296 + (w >> 32) * 4294967296)
+}

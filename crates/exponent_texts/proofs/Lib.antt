@@ -1,0 +1,4 @@
+-- Laws of exponent texts.
+pub mod Exponents
+pub mod Coefficients
+pub mod Magnitudes

@@ -1,0 +1,2 @@
+-- What is found of an exponent text.
+pub mod Exponents

@@ -1,0 +1,2 @@
+-- Laws of the answer for a value.
+pub mod Ranges

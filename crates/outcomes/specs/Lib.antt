@@ -1,0 +1,2 @@
+-- What reading answers of a value.
+pub mod Outcomes

@@ -1,0 +1,2 @@
+-- Laws of texts of digits.
+pub mod Numbers

@@ -1,0 +1,27 @@
+-- `twenty_digits::eight` meets its contract. Assumes nothing.
+use mathlib.Core.Path.{refl}
+use Rattle.twenty_digits.proofs.Numbers.{eight-number}
+use borrow.Author.Needs.{needs}
+use Rattle.twenty_digits.proofs.eight.Statement.{statement}
+use Rattle.twenty_digits.proofs.eight.Tie as tie
+
+load8-requires : tie.Need-load8-requires
+load8-requires c κs = search needs
+
+figures-requires : tie.Need-figures-requires
+figures-requires c κs = search needs
+
+returns : tie.Need-returns
+returns c = λ z. absurd (z refl)
+
+number-requires : tie.Need-number-requires
+number-requires c κs = c .before .figures .ensures (c .if1 .left) .each
+
+returns-2 : tie.Need-returns-2
+returns-2 c = λ z.
+    let tested = c .before .before in
+    let s = tested .before .before .before in
+    eight-number (s .args .text .now) (tested .before .load8 .result) (tested .figures .result) _ (s .pre) (tested .before .load8 .ensures) (tested .figures .ensures (c .before .if1 .left)) (c .number .ensures .0)
+
+pub eight-spec : {M : Type 1} → statement M
+eight-spec = tie.close (tie.spec load8-requires figures-requires returns number-requires returns-2)

@@ -1,0 +1,2 @@
+-- What a text of digits stands for.
+pub mod Numbers

@@ -1,0 +1,2 @@
+-- What is found of a text of digits.
+pub mod Wholes

@@ -1,0 +1,65 @@
+// Texts of digits behind a minus or none: what each is found to be.
+ghost use mathlib.Core.Path.{_≡_};
+ghost use Prim.Native.Nat.{_-_, _/_, _^_, _≤_, _<_};
+ghost use lib.ListN.{length};
+ghost use Rattle.radix.specs.Radix.{digitByte, lower};
+ghost use Rattle.whole_texts.specs.Wholes.{FoundOf};
+use digit_runs::TENTH;
+use digit_runs::front;
+use digit_runs::scan;
+use digit_words::NONE;
+use twenty_digits::number_of;
+
+// What a text of digits is found to be: of another shape from a place on, not canonical, or a number behind a minus or none.
+pub enum Found {
+    Wrong(usize),
+    Broken,
+    Number { minus: bool, value: u64, over: bool },
+}
+
+pub fn find_whole(text: &[u8], may: bool, base: u64, top: u64, letter: u8) -> Found
+    requires { ⌜ (0 < length (now text)) × (1 < base) × (base ≤ 16) × (57 < letter) × (letter ≤ 97) × (top ≡ (2 ^ 64 - 1) / base) ⌝ }
+    ensures { λ r. ⌜ FoundOf may (digitByte letter) base (now (text .entry)) r ⌝ }
+{
+    let start = front(text, may);
+    let run = scan(text, start, base, top, letter, 0);
+    let end = run.end;
+    if end < text.len() {
+        return Found::Wrong(end);
+    }
+    if end <= start {
+        return Found::Wrong(end);
+    }
+    if text[start] == 48 {
+        if 1 < end {
+            return Found::Broken;
+        }
+    }
+    Found::Number {
+        minus: 0 < start,
+        value: run.value,
+        over: run.over,
+    }
+}
+
+// A decimal text: eight digits at a time, and byte by byte where that finds no number.
+pub fn find_decimal(text: &[u8], may: bool) -> Found
+    requires { ⌜ 0 < length (now text) ⌝ }
+    ensures { λ r. ⌜ FoundOf may lower 10 (now (text .entry)) r ⌝ }
+{
+    let start = front(text, may);
+    let value = number_of(&text[start..]);
+    if value == NONE {
+        return find_whole(text, may, 10, TENTH, b'a');
+    }
+    if text[start] == 48 {
+        if 1 < text.len() {
+            return Found::Broken;
+        }
+    }
+    Found::Number {
+        minus: 0 < start,
+        value,
+        over: false,
+    }
+}
