@@ -1,6 +1,6 @@
 -- How many decimal digits a number has by how many bits: 1233 / 4096 of them, or one more.
 -- Assumes nothing.
-use mathlib.Core.Path.{_≡_, refl, sym, ap, _∙_}
+use mathlib.Core.Path.{_≡_, refl, ap, _∙_}
 use mathlib.Core.Bool.{Bool, true, false, cond}
 use Prim.Native.Nat.{ℕ, zero, suc, _+_, _-_, _*_, _/_, _^_, _≤_, _<_}
 use native.Mathlib.Nat.{one-le-pow, pow-suc, pow-zero, le-trans, le-antisymm, not-suc-le-zero, lt-of-lt-of-le, zero-lt-suc}
@@ -42,11 +42,11 @@ worth m = m * 1233 / 4096
 -- of 64 bits antt computes each
 low : (j : ℕ) → j < 64 → 10 ^ (worth (suc j) - 1) ≤ 2 ^ j
 unfolding holds
-low j h = leb-true (10 ^ (worth (suc j) - 1)) (2 ^ j) (holds-at 64 (λ (i : ℕ). leb (10 ^ (suc i * 1233 / 4096 - 1)) (2 ^ i)) j refl h)
+low j h = leb-true (10 ^ (worth (suc j) - 1)) (2 ^ j) (holds-at 64 (λ (i : ℕ). leb (10 ^ (worth (suc i) - 1)) (2 ^ i)) j refl h)
 
 high : (j : ℕ) → j < 64 → 2 ^ suc j ≤ 10 ^ suc (worth (suc j))
 unfolding holds
-high j h = leb-true (2 ^ suc j) (10 ^ suc (worth (suc j))) (holds-at 64 (λ (i : ℕ). leb (2 ^ suc i) (10 ^ suc (suc i * 1233 / 4096))) j refl h)
+high j h = leb-true (2 ^ suc j) (10 ^ suc (worth (suc j))) (holds-at 64 (λ (i : ℕ). leb (2 ^ suc i) (10 ^ suc (worth (suc i)))) j refl h)
 
 -- an odd number is no power of ten but 1: where n is even, n + 1 has as many digits
 pub odd-length : (n : ℕ) → length (digits 10 (n / 2 * 2 + 1)) ≡ length (digits 10 n)

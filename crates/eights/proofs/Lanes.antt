@@ -23,14 +23,18 @@ mod-is q r m e h = ap (λ (x : ℕ). x % m) e ∙ digits-mod q h
 pub mask2 : (h l : ℕ) → l < 65536 → bitAnd (h * 65536 + l) 0x000f_000f ≡ h % 16 * 65536 + l % 16
 mask2 h l p = and-block 16 h 15 l 15 p (lit< tt) ∙ ap₂ (λ (x y : ℕ). x * 65536 + y) (and-mask h 4) (and-mask l 4)
 
+-- the tenths of two numbers as the shift leaves them, b above and a below, and what the mask keeps
+kept : (a b s : ℕ) → a < 10 → b < 10 → s < 10 → bitAnd (b * 65536 + ((b * 6 + s * 103) * 64 + a)) 0x000f_000f ≡ b * 65536 + a
+kept a b s ha hb hs =
+    mask2 b ((b * 6 + s * 103) * 64 + a) (omega arith)
+    ∙ ap₂ (λ (x y : ℕ). x * 65536 + y) (mod-eq-of-lt (omega arith)) (mod-is ((b * 6 + s * 103) * 4) a 16 (omega arith) (omega arith))
+
 -- the tenths of two numbers, of which each is given by its digits
 pub tenths : (a r b s : ℕ) → a < 10 → r < 10 → b < 10 → s < 10 → bitAnd (((b * 10 + s) * 65536 + (a * 10 + r)) * 103 / 1024) 0x000f_000f ≡ b * 65536 + a
 tenths a r b s ha hr hb hs =
     let e : ((b * 10 + s) * 65536 + (a * 10 + r)) * 103 / 1024 ≡ b * 65536 + ((b * 6 + s * 103) * 64 + a) =
     div-is (b * 65536 + ((b * 6 + s * 103) * 64 + a)) (a * 6 + r * 103) 1024 (omega arith) (omega arith) in
-    ap (λ (x : ℕ). bitAnd x 0x000f_000f) e
-    ∙ mask2 b ((b * 6 + s * 103) * 64 + a) (omega arith)
-    ∙ ap₂ (λ (x y : ℕ). x * 65536 + y) (mod-eq-of-lt (omega arith)) (mod-is ((b * 6 + s * 103) * 4) a 16 (omega arith) (omega arith))
+    ap (λ (x : ℕ). bitAnd x 0x000f_000f) e ∙ kept a b s ha hb hs
 
 -- n's two pairs side by side
 pub paired : (n : ℕ) → n < 10000 → n * 2 ^ 16 % 2 ^ 32 - n / 100 * 6553599 ≡ pairsOf n
@@ -69,17 +73,11 @@ tenths4 a r b s a' r' b' s' ha hr hb hs ha' hr' hb' hs' =
     let v = a' * 6 + r' * 103 in
     let e : (((b' * 10 + s') * 65536 + (a' * 10 + r')) * 4294967296 + ((b * 10 + s) * 65536 + (a * 10 + r))) * 103 / 1024 ≡ u' * 4294967296 + (v * 4194304 + u) =
     div-is (u' * 4294967296 + (v * 4194304 + u)) (a * 6 + r * 103) 1024 (omega arith) (omega arith) in
-    let m : bitAnd u 0x000f_000f ≡ b * 65536 + a =
-    mask2 b ((b * 6 + s * 103) * 64 + a) (omega arith)
-    ∙ ap₂ (λ (x y : ℕ). x * 65536 + y) (mod-eq-of-lt (omega arith)) (mod-is ((b * 6 + s * 103) * 4) a 16 (omega arith) (omega arith)) in
-    let m' : bitAnd u' 0x000f_000f ≡ b' * 65536 + a' =
-    mask2 b' ((b' * 6 + s' * 103) * 64 + a') (omega arith)
-    ∙ ap₂ (λ (x y : ℕ). x * 65536 + y) (mod-eq-of-lt (omega arith)) (mod-is ((b' * 6 + s' * 103) * 4) a' 16 (omega arith) (omega arith)) in
     let low : bitAnd (v * 4194304 + u) 0x000f_000f ≡ b * 65536 + a =
-    and-block 22 v 0 u 0x000f_000f (omega arith) (lit< tt) ∙ ap₂ (λ (x y : ℕ). x * 4194304 + y) (and-zero-r v) m ∙ zero-add (b * 65536 + a) in
+    and-block 22 v 0 u 0x000f_000f (omega arith) (lit< tt) ∙ ap₂ (λ (x y : ℕ). x * 4194304 + y) (and-zero-r v) (kept a b s ha hb hs) ∙ zero-add (b * 65536 + a) in
     ap (λ (x : ℕ). bitAnd x 0x000f_000f_000f_000f) e
     ∙ and-block 32 u' 0x000f_000f (v * 4194304 + u) 0x000f_000f (omega arith) (lit< tt)
-    ∙ ap₂ (λ (x y : ℕ). x * 4294967296 + y) m' low
+    ∙ ap₂ (λ (x y : ℕ). x * 4294967296 + y) (kept a' b' s' ha' hb' hs') low
 
 pub sub-is : {x : ℕ} (r t : ℕ) → x ≡ r + t → x - t ≡ r
 sub-is r t e = omega arith

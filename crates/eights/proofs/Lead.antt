@@ -3,14 +3,14 @@
 use mathlib.Core.Path.{_≡_, refl, sym, ap, _∙_}
 use mathlib.Core.List.{List, [], _∷_, map}
 use Prim.Native.Nat.{ℕ, zero, suc, _+_, _-_, _*_, _/_, _%_, _^_, _<_, _≤_}
-use native.Mathlib.Nat.{div-eq-of-lt, div-lt-iff-lt-mul, le-div-iff-mul-le, mod-eq-of-lt, one-le-pow, pow-suc, pow-succ', pow-zero}
+use native.Mathlib.Nat.{div-eq-of-lt, div-lt-iff-lt-mul, le-div-iff-mul-le, mod-eq-of-lt, one-le-pow, pow-succ', pow-zero}
 use native.Mathlib.Omega.{arith}
 use lib.Arith.{lt-one}
 use lib.ListN.{length, drop, length-drop}
-use Rattle.digits.specs.Digits.{bare, digits, last}
+use Rattle.digits.specs.Digits.{bare, last}
 use Rattle.digits.specs.Text.{text, lastText}
 use Rattle.digits.proofs.Digits.{bare-zero, bare-length-gt, digits-pos}
-use Rattle.digits.proofs.Last.{bare-split, length-last}
+use Rattle.digits.proofs.Last.{bare-split}
 use Rattle.digits.proofs.Text.{length-lastText, text-some}
 use Rattle.words.specs.Bytes.{zerosFront}
 

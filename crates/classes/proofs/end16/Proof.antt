@@ -3,10 +3,9 @@ use mathlib.Core.Path.{ap₂, _∙_}
 use mathlib.Core.List.{List, _++_}
 use Prim.Native.Nat.{ℕ, _+_, _-_, _/_, _%_, _<_}
 use native.Mathlib.Omega.{arith}
-use lib.ListN.{length}
 use Rattle.digits.specs.Text.{ascii, decimal}
 use Rattle.digits.proofs.Text.{text-longer, text-some}
-use Rattle.classes.proofs.Heads.{ten, each-digit, last-text, head-length, head-text, stands, longer, front-some, joined}
+use Rattle.classes.proofs.Heads.{ten, each-digit, last-text, head-length, head-text, stands, front-some, joined}
 use borrow.Author.Needs.{needs}
 use Rattle.classes.proofs.end16.Statement.{statement}
 use Rattle.classes.proofs.end16.Tie as tie

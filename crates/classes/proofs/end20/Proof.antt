@@ -4,7 +4,6 @@ use mathlib.Core.List.{List, _++_}
 use Prim.Native.Nat.{ℕ, _+_, _-_, _/_, _%_, _^_, _<_, _≤_}
 use native.Mathlib.Nat.{div-div-eq-div-mul}
 use native.Mathlib.Omega.{arith}
-use lib.ListN.{length}
 use Rattle.digits.specs.Text.{ascii, lastText, decimal}
 use Rattle.digits.proofs.Text.{text-longer, text-some}
 use Rattle.classes.proofs.Heads.{ten, each-digit, last-text, head-length, head-text, stands, front-some, joined, stored-on}

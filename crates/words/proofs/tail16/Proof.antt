@@ -1,5 +1,5 @@
 -- `words::tail16` meets its contract: two eights that overlap. Assumes nothing.
-use mathlib.Core.Path.{refl, ap, _∙_}
+use mathlib.Core.Path.{refl, _∙_}
 use Prim.Native.Nat.{_+_, _-_}
 use native.Mathlib.Omega.{arith}
 use Rattle.words.specs.Bytes.{bytesOf}
