@@ -5,6 +5,7 @@ use mathlib.Core.Path.{_≡_, refl, sym, ap, _∙_}
 use Prim.Native.Nat.{ℕ, zero, suc, _+_, _-_, _/_, _%_, _^_, _≤_, _<_}
 use native.Mathlib.Nat.{div-lt-iff-lt-mul, mod-eq-of-lt, pow-zero, div-one}
 use native.Mathlib.Numerals.{add-one}
+use native.Mathlib.Decide.{decLt}
 use native.Mathlib.Omega.{arith}
 use lib.ListN.{length, getD, set}
 use lib.Seq.{getD-set-same, set-set}
@@ -79,19 +80,24 @@ pub two-exp : (letter e : ℕ) → 10 ≤ e → e < 100 → 3 ≡ length (letter
 unfolding lastText last
 two-exp letter e h b = rw (text-last ascii 10 T.ten 1 e h b) refl
 
-pub exp-one : (l : List ℕ) (at letter e : ℕ) → e < 10 → at + length (letter ∷ decimal e) ≤ length l
-    → (2 ≡ length (letter ∷ decimal e)) × (set (set l at letter) (at + 1) (48 + e) ≡ ended l (at + 2) (letter ∷ decimal e))
-exp-one l at letter e h k =
-    let n = one-exp letter e h in
-    rw (text-small ascii 10 T.ten e h, add-one at) (refl, ended-sets l at (at + 2) (letter ∷ (48 + e) ∷ []) refl (omega arith))
-
-pub exp-two : (l : List ℕ) (at letter e : ℕ) → 10 ≤ e → e < 100 → at + length (letter ∷ decimal e) ≤ length l
-    → (3 ≡ length (letter ∷ decimal e)) × (set (set (set l at letter) (at + 1) (48 + e / 10)) (at + 2) (48 + e % 10) ≡ ended l (at + 3) (letter ∷ decimal e))
+-- the letter, the first digit and the last, which of one digit is the first
+pub exp-digits : (l : List ℕ) (at letter e first len : ℕ) → e < 100 → (e < 10 → first ≡ 48 + e) × (10 ≤ e → first ≡ 48 + e / 10) → len ≡ length (letter ∷ decimal e) → at + len ≤ length l
+    → set (set (set l at letter) (at + 1) first) (at + len - 1) (48 + e % 10) ≡ ended l (at + len) (letter ∷ decimal e)
 unfolding lastText last
-exp-two l at letter e h b k =
-    let d : e / 10 ^ 1 % 10 ≡ e / 10 = omega arith in
-    let u : e / 10 ^ 0 % 10 ≡ e % 10 = omega arith in
-    let t : decimal e ≡ (48 + e / 10) ∷ (48 + e % 10) ∷ [] = text-last ascii 10 T.ten 1 e h b ∙ rw (d, u) in
-    let a : at + 2 ≡ suc (suc at) = omega arith in
-    let n = two-exp letter e h b in
-    rw (t, add-one at) (refl, ap (λ (j : ℕ). set (set (set l at letter) (suc at) (48 + e / 10)) j (48 + e % 10)) a ∙ ended-sets l at (at + 3) (letter ∷ (48 + e / 10) ∷ (48 + e % 10) ∷ []) refl (omega arith))
+exp-digits l at letter e first len b f n h = go (decLt e 10)
+  where
+    go : Dec (e < 10) → set (set (set l at letter) (at + 1) first) (at + len - 1) (48 + e % 10) ≡ ended l (at + len) (letter ∷ decimal e)
+    go (yes y) =
+        let two : len ≡ 2 = omega (arith, one-exp letter e y) in
+        let i : at + 2 - 1 ≡ at + 1 = omega arith in
+        let u : e % 10 ≡ e = omega arith in
+        rw (two, i, u, f .0 y, set-set (set l at letter) (at + 1) (48 + e) (48 + e), text-small ascii 10 T.ten e y, add-one at)
+        (ended-sets l at (at + 2) (letter ∷ (48 + e) ∷ []) refl (omega arith))
+    go (no y) =
+        let k : 10 ≤ e = omega arith in
+        let three : len ≡ 3 = omega (arith, two-exp letter e k b) in
+        let i : at + 3 - 1 ≡ suc (suc at) = omega arith in
+        let d : e / 10 ^ 1 % 10 ≡ e / 10 = omega arith in
+        let u : e / 10 ^ 0 % 10 ≡ e % 10 = omega arith in
+        let t : decimal e ≡ (48 + e / 10) ∷ (48 + e % 10) ∷ [] = text-last ascii 10 T.ten 1 e k b ∙ rw (d, u) in
+        rw (three, i, f .1 k, t, add-one at) (ended-sets l at (at + 3) (letter ∷ (48 + e / 10) ∷ (48 + e % 10) ∷ []) refl (omega arith))

@@ -80,8 +80,14 @@ pub fn write_bare(format: u32, n: u64, negative: bool, out: &mut [u8]) -> Writte
     Written::Done(count)
 }
 
-// Digits with what the options put around them.
-fn write_framed(format: u32, n: u64, negative: bool, options: Options, out: &mut [u8]) -> Written
+// Digits with what the options put around them, at the start of out.
+pub fn write_framed(
+    format: u32,
+    n: u64,
+    negative: bool,
+    options: Options,
+    out: &mut [u8],
+) -> Written
     requires { ⌜ options .fill ≤ 126 ⌝ }
     ensures { λ r. ⌜ Writes (framed options negative format (plain format n)) (fitted (framed options negative format (plain format n)) (length (now (out .entry)))) (now (out .entry)) r (now (out .exit)) ⌝ }
 {
@@ -106,21 +112,6 @@ fn write_framed(format: u32, n: u64, negative: bool, options: Options, out: &mut
         at,
     );
     Written::Done(need)
-}
-
-// A form that needs no more than a number: its digits with what the options put around them, at the start of out.
-pub fn write_plain(format: u32, n: u64, negative: bool, options: Options, out: &mut [u8]) -> Written
-    requires { ⌜ options .fill ≤ 126 ⌝ }
-    ensures { λ r. ⌜ Writes (framed options negative format (plain format n)) (fitted (framed options negative format (plain format n)) (length (now (out .entry)))) (now (out .entry)) r (now (out .exit)) ⌝ }
-{
-    if options.width == 0 {
-        if !options.plus {
-            if !options.alternate {
-                return write_bare(format, n, negative, out);
-            }
-        }
-    }
-    write_framed(format, n, negative, options, out)
 }
 
 // The letter of an exponent form.
@@ -165,7 +156,7 @@ pub fn write_bare_exponent(
 }
 
 // The exponent form with what the options put around it: three parts over a scratch of 24 bytes.
-fn write_framed_exponent(
+pub fn write_framed_exponent(
     format: u32,
     n: u64,
     negative: bool,
@@ -202,26 +193,4 @@ fn write_framed_exponent(
         at,
     );
     Written::Done(need)
-}
-
-// The exponent form with what the options put around it, at the start of out.
-pub fn write_exponent(
-    format: u32,
-    n: u64,
-    negative: bool,
-    options: Options,
-    out: &mut [u8],
-) -> Written
-    requires { ⌜ options .fill ≤ 126 ⌝ }
-    ensures { λ r. ⌜ Writes (framed options negative format (expText (letterOf format) (precisionOf (options .precision)) n)) (exponentAnswer options negative format n (length (now (out .entry)))) (now (out .entry)) r (now (out .exit)) ⌝ }
-{
-    let precision = options.precision;
-    if options.width == 0 {
-        if !options.plus {
-            if !options.alternate {
-                return write_bare_exponent(format, n, negative, precision, out);
-            }
-        }
-    }
-    write_framed_exponent(format, n, negative, options, out)
 }

@@ -6,11 +6,59 @@ ghost use lib.IntN.{pos};
 ghost use lib.ListN.{length};
 ghost use Rattle.kinds.specs.Kinds.{known, inType, meaning};
 ghost use Rattle.writing.specs.Text.{textOf};
-ghost use Rattle.writing.specs.Promise.{house, answerOf, answer, Writes};
+ghost use Rattle.writing.specs.Promise.{house, Unframed, optionsKnown, answerOf, answer, Writes};
 use exponent::Precision;
 use kinds::Kind;
 use writing::Options;
 use writing::Written;
+
+// With nothing around the digits but a minus: the way of most calls, which needs no options to be passed on.
+fn write_unframed(
+    signed: bool,
+    bits: u32,
+    value: u64,
+    format: u32,
+    precision: Precision,
+    out: &mut [u8],
+) -> Written
+    requires { ⌜ (known bits ≡ true) × (inType signed bits (meaning 64 signed value) ≡ true) ⌝ }
+    ensures { λ r. ⌜ ((o : Options) → Unframed o precision → optionsKnown format o ≡ true → Writes (textOf bits (meaning 64 signed value) format o) (answerOf bits (meaning 64 signed value) format o (length (now (out .entry)))) (now (out .entry)) r (now (out .exit))) ⌝ }
+{
+    if format == 0 {
+        let split = kinds::split_pattern(signed, value);
+        return framing::write_bare(format, split.magnitude, split.negative, out);
+    }
+    if format <= 4 {
+        let pattern = kinds::own_pattern(signed, bits, value);
+        return framing::write_bare(format, pattern, false, out);
+    }
+    let split = kinds::split_pattern(signed, value);
+    framing::write_bare_exponent(format, split.magnitude, split.negative, precision, out)
+}
+
+// With what the options put around the digits.
+fn write_framed(
+    signed: bool,
+    bits: u32,
+    value: u64,
+    format: u32,
+    options: Options,
+    out: &mut [u8],
+) -> Written
+    requires { ⌜ (known bits ≡ true) × (inType signed bits (meaning 64 signed value) ≡ true) × (optionsKnown format options ≡ true) ⌝ }
+    ensures { λ r. ⌜ Writes (textOf bits (meaning 64 signed value) format options) (answerOf bits (meaning 64 signed value) format options (length (now (out .entry)))) (now (out .entry)) r (now (out .exit)) ⌝ }
+{
+    if format == 0 {
+        let split = kinds::split_pattern(signed, value);
+        return framing::write_framed(format, split.magnitude, split.negative, options, out);
+    }
+    if format <= 4 {
+        let own = kinds::own_pattern(signed, bits, value);
+        return framing::write_framed(format, own, false, options, out);
+    }
+    let split = kinds::split_pattern(signed, value);
+    framing::write_framed_exponent(format, split.magnitude, split.negative, options, out)
+}
 
 // A value of a type that has been judged: everything else is checked before the first byte is written.
 fn write_value(
@@ -27,16 +75,15 @@ fn write_value(
     if !writing::options_known(format, options) {
         return Written::OptionsRefused;
     }
-    if format == 0 {
-        let split = kinds::split_pattern(signed, value);
-        return framing::write_plain(format, split.magnitude, split.negative, options, out);
+    let precision = options.precision;
+    if options.width == 0 {
+        if !options.plus {
+            if !options.alternate {
+                return write_unframed(signed, bits, value, format, precision, out);
+            }
+        }
     }
-    if format <= 4 {
-        let own = kinds::own_pattern(signed, bits, value);
-        return framing::write_plain(format, own, false, options, out);
-    }
-    let split = kinds::split_pattern(signed, value);
-    framing::write_exponent(format, split.magnitude, split.negative, options, out)
+    write_framed(signed, bits, value, format, options, out)
 }
 
 // The 64-bit core: the value comes as a two's complement pattern, of an unsigned type as an unsigned number.
@@ -52,33 +99,6 @@ pub fn write(kind: Kind, value: u64, format: u32, options: Options, out: &mut [u
     write_value(kind.signed, kind.bits, value, format, options, out)
 }
 
-// As write_value at the house default, which needs no options to be passed on.
-fn write_house(signed: bool, bits: u32, value: u64, format: u32, out: &mut [u8]) -> Written
-    requires { ⌜ (known bits ≡ true) × (inType signed bits (meaning 64 signed value) ≡ true) ⌝ }
-    ensures { λ r. ⌜ Writes (textOf bits (meaning 64 signed value) format house) (answerOf bits (meaning 64 signed value) format house (length (now (out .entry)))) (now (out .entry)) r (now (out .exit)) ⌝ }
-{
-    if format == 0 {
-        let split = kinds::split_pattern(signed, value);
-        return framing::write_bare(format, split.magnitude, split.negative, out);
-    }
-    if format <= 4 {
-        let pattern = kinds::own_pattern(signed, bits, value);
-        return framing::write_bare(format, pattern, false, out);
-    }
-    if format <= 6 {
-        let split = kinds::split_pattern(signed, value);
-        let precision = Precision::None;
-        return framing::write_bare_exponent(
-            format,
-            split.magnitude,
-            split.negative,
-            precision,
-            out,
-        );
-    }
-    Written::OptionsRefused
-}
-
 // At the house default.
 pub fn write_short(kind: Kind, value: u64, format: u32, out: &mut [u8]) -> Written
     ensures { λ r. ⌜ Writes (textOf (kind .bits) (meaning 64 (kind .signed) value) format house) (answer (kind .signed) (kind .bits) value format house (length (now (out .entry)))) (now (out .entry)) r (now (out .exit)) ⌝ }
@@ -89,7 +109,10 @@ pub fn write_short(kind: Kind, value: u64, format: u32, out: &mut [u8]) -> Writt
     if !kinds::in_type(kind.signed, kind.bits, value) {
         return Written::ValueRefused;
     }
-    write_house(kind.signed, kind.bits, value, format, out)
+    if 6 < format {
+        return Written::OptionsRefused;
+    }
+    write_unframed(kind.signed, kind.bits, value, format, Precision::None, out)
 }
 
 // By type, the value by value: type and value need no check.

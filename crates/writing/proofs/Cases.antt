@@ -14,6 +14,8 @@ use Rattle.buffer.specs.AtEnd.{ended}
 use Rattle.buffer.proofs.AtEnd.{ended-whole}
 use Rattle.digits.specs.Text.{decimal}
 use Rattle.exponent.specs.Coefficient.{precisionOf}
+use Rattle.exponent.specs.declared.Precision.{Precision}
+use Rattle.exponent.specs.declared.Precision.the-variants.{None}
 use Rattle.kinds.specs.Kinds.{known, inType, meaning, negative, pattern, splitOf}
 use Rattle.kinds.specs.declared.Split.{Split}
 use Rattle.padding.specs.Padding.{signOf, prefixOf}
@@ -21,7 +23,7 @@ use Rattle.padding.proofs.Padding.{plan-none, padded-is}
 use Rattle.radix.specs.Radix.{radix}
 use Rattle.scientific.specs.Layout.{expText}
 use Rattle.scientific.specs.Sci.{sci}
-use Rattle.writing.specs.Promise.{house, optionsKnown, fitted, keptAnswer, exponentAnswer, answerOf, answer, Writes}
+use Rattle.writing.specs.Promise.{house, Unframed, optionsKnown, fitted, keptAnswer, exponentAnswer, answerOf, answer, Writes}
 use Rattle.writing.specs.Text.{letterOf, framed, bare, plain, textOf}
 use Rattle.writing.specs.declared.Options.{Options}
 use Rattle.writing.specs.declared.Written.the-variants.{Done, TypeRefused, ValueRefused, OptionsRefused, ExponentRefused, NoRoom}
@@ -30,11 +32,12 @@ use Rattle.writing.specs.declared.Written.{Written}
 -- ---- digits with nothing around them but a minus
 
 module _ (o : Options) (negative : Bool) (format : ℕ) (digits : List ℕ) where
-  pub framed-bare : o .width ≡ 0 → o .plus ≡ false → o .alternate ≡ false → framed o negative format digits ≡ bare negative digits
-  framed-bare w p a =
+  pub framed-bare : {p : Precision} → Unframed o p → framed o negative format digits ≡ bare negative digits
+  framed-bare U =
+      let w = U .width in
       let k : o .width - (length (signOf negative (o .plus)) + (length (prefixOf (o .alternate) format) + length digits)) ≡ 0 = omega arith in
       padded-is (o .zero) (o .fill) (o .align) (o .width) (signOf negative (o .plus)) (prefixOf (o .alternate) format) digits (plan-none (o .zero) (o .align) _ k)
-      ∙ rw (p, a) (ap₂ (λ (x y : List ℕ). x ++ y) (append-nil (signOf negative false)) (append-nil digits))
+      ∙ rw (U .plus, U .alternate) (ap₂ (λ (x y : List ℕ). x ++ y) (append-nil (signOf negative false)) (append-nil digits))
 
 -- ---- room
 
@@ -114,6 +117,9 @@ fill-known format o h = go (leb format 6) (leb (o .align) 3) (leb 32 (o .fill)) 
     go true true false false e f g i = absurd (let t : _≡_ {A = Bool} false true = rw (e, f, g) at h in let z : _≡_ {A = ℕ} 0 1 = cc in omega arith)
     go true false c false e f g i = absurd (let t : _≡_ {A = Bool} false true = rw (e, f) at h in let z : _≡_ {A = ℕ} 0 1 = cc in omega arith)
     go false b c false e f g i = absurd (let t : _≡_ {A = Bool} false true = rw e at h in let z : _≡_ {A = ℕ} 0 1 = cc in omega arith)
+
+pub house-unframed : Unframed house None
+house-unframed = record { width = refl; plus = refl; alternate = refl; precision = refl }
 
 pub house-known : (format : ℕ) → format ≤ 6 → optionsKnown format house ≡ true
 house-known format h = simp (le-leb format 6 h)

@@ -9,6 +9,7 @@ use lib.IntN.{ℤ, natAbs}
 use lib.ListN.{length}
 use Rattle.buffer.specs.AtEnd.{begun}
 use Rattle.exponent.specs.Coefficient.{precisionOf}
+use Rattle.exponent.specs.declared.Precision.{Precision}
 use Rattle.exponent.specs.declared.Precision.the-variants.{None}
 use Rattle.kinds.specs.Kinds.{known, inType, meaning}
 use Rattle.scientific.specs.Layout.{expText}
@@ -77,6 +78,13 @@ pub record Writes (t : List ℕ) (a : Written) (l : List ℕ) (r : Written) (l�
 -- The house default: no flag, fill space, alignment unset, width 0, precision none.
 abbrev pub house : Options
 house = record { plus = false; alternate = false; zero = false; fill = 32; align = 0; width = 0; precision = None }
+
+-- Options that put nothing around the digits but a minus: no sign, no prefix, no width. The precision is theirs.
+pub record Unframed (o : Options) (p : Precision) : Type 0 where
+  pub width : o .width ≡ 0
+  pub plus : o .plus ≡ false
+  pub alternate : o .alternate ≡ false
+  pub precision : o .precision ≡ p
 
 -- The answer to a magnitude n in exponent form with precision p, whose text with what is around it is t, when its options are known.
 abbrev pub keptAnswer : Option ℕ → ℕ → List ℕ → ℕ → Written
