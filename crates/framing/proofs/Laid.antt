@@ -7,11 +7,11 @@ use mathlib.Core.Path.{_≡_, refl, sym, ap, _∙_}
 use Prim.Native.Nat.{ℕ, _+_, _-_, _^_, _≤_, _<_}
 use native.Mathlib.Omega.{arith}
 use native.Mathlib.Nat.{lt-of-lt-of-le}
-use lib.Dec.{eqb, leb, lit<, lit≤}
-use borrow.Author.Tests.{ne-eqb, le-leb, lt-leb}
+use lib.Dec.{eqb, lit<, lit≤}
+use borrow.Author.Tests.{ne-eqb}
 use lib.ListN.{length, replicate, length-append, length-replicate}
 use Rattle.buffer.specs.AtEnd.{ended}
-use Rattle.buffer.proofs.AtEnd.{ended-on, ended-whole}
+use Rattle.buffer.proofs.AtEnd.{ended-on}
 use Rattle.digits.specs.Text.{ascii, decimal}
 use Rattle.digits.proofs.Text.{text-most}
 use Rattle.exponent.specs.Form.{Texts, Answers}
@@ -27,10 +27,11 @@ use Rattle.radix.specs.Radix.{radix}
 use Rattle.radix.proofs.Lengths.{radix-most}
 use Rattle.scientific.specs.Layout.{expText}
 use Rattle.scientific.specs.Sci.{sci}
-use Rattle.writing.specs.Promise.{fitted, answer, Writes}
+use Rattle.writing.specs.Promise.{Places}
 use Rattle.writing.specs.Text.{framed, plain, textOf}
 use Rattle.writing.specs.declared.Options.{Options}
-use Rattle.writing.specs.declared.Written.the-variants.{Done, ExponentRefused, NoRoom}
+use Rattle.writing.specs.declared.Written.the-variants.{ExponentRefused}
+use Rattle.writing.proofs.Cases.{lacks-room, has-room}
 use Rattle.framing.specs.Laid.{Laid}
 
 pub plain-decimal : (format n : ℕ) → format ≡ 0 → plain format n ≡ decimal n
@@ -57,11 +58,8 @@ module _ (o : Options) (negative : Bool) (format : ℕ) (digits : List ℕ) (pad
   pub need-is : need ≡ (pad .before + (length (signOf negative (o .plus)) + (length (prefixOf (o .alternate) format) + pad .zeros))) + (length digits + pad .behind)
   need-is = L .whole ∙ padded-length (o .zero) (o .fill) (o .align) (o .width) (signOf negative (o .plus)) (prefixOf (o .alternate) format) digits (L .planned)
 
-  pub no-room : (l : List ℕ) → length l < need → Writes (framed o negative format digits) (fitted (framed o negative format digits) (length l)) l (NoRoom need) l
-  no-room l h =
-      let t = framed o negative format digits in
-      let f : fitted t (length l) ≡ NoRoom (length t) = rw (lt-leb (length t) (length l) (omega (arith, L .whole))) in
-      rw f (record { answers = ap NoRoom (L .whole); leaves = refl })
+  pub no-room : (l : List ℕ) → length l < need → Places (framed o negative format digits) l need l
+  no-room l h = lacks-room (framed o negative format digits) l need (L .whole) h
 
   -- behind, digits and front, each just before what is behind it
   pub in-room : (l l₁ l₂ l₃ : List ℕ) (at : ℕ) → need ≤ length l
@@ -69,9 +67,8 @@ module _ (o : Options) (negative : Bool) (format : ℕ) (digits : List ℕ) (pad
       → l₂ ≡ ended l₁ (need - pad .behind) digits
       → at ≡ (need - pad .behind) - length digits
       → l₃ ≡ ended l₂ at front
-      → Writes (framed o negative format digits) (fitted (framed o negative format digits) (length l)) l (Done need) l₃
+      → Places (framed o negative format digits) l need l₃
   in-room l l₁ l₂ l₃ at h e₁ e₂ i e₃ =
-      let t = framed o negative format digits in
       let back = replicate (pad .behind) (o .fill) in
       let nb = length-replicate (pad .behind) (o .fill) in
       let nz = length-replicate {A = ℕ} (pad .zeros) 48 in
@@ -83,9 +80,8 @@ module _ (o : Options) (negative : Bool) (format : ℕ) (digits : List ℕ) (pad
       let n = need-is in
       let s₂ = ended-on l need back digits e₁ e₂ (omega arith) (omega arith) h in
       let s₃ = ended-on l need (digits ++ back) front s₂ e₃ (omega arith) (omega arith) h in
-      let w : front ++ (digits ++ back) ≡ t = sym (padded-is (o .zero) (o .fill) (o .align) (o .width) (signOf negative (o .plus)) (prefixOf (o .alternate) format) digits (L .planned)) in
-      let f : fitted t (length l) ≡ Done (length t) = rw (le-leb (length t) (length l) (omega (arith, L .whole))) in
-      rw f (record { answers = ap Done (L .whole); leaves = s₃ ∙ rw (w, L .whole) (ended-whole l t) })
+      let w : front ++ (digits ++ back) ≡ framed o negative format digits = sym (padded-is (o .zero) (o .fill) (o .align) (o .width) (signOf negative (o .plus)) (prefixOf (o .alternate) format) digits (L .planned)) in
+      has-room (framed o negative format digits) l need (L .whole) l₃ h (rw w at s₃)
 
 -- what the parts of an exponent form are, whatever its sign code is called
 pub record Digits (letter : ℕ) (p : Option ℕ) (n : ℕ) (src : List ℕ) (f : Formatted) : Type 0 where

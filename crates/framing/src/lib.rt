@@ -8,7 +8,7 @@ ghost use Rattle.buffer.specs.AtEnd.{ended};
 ghost use Rattle.exponent.specs.Coefficient.{precisionOf};
 ghost use Rattle.scientific.specs.Layout.{expText};
 ghost use Rattle.writing.specs.Text.{letterOf, framed, bare, plain};
-ghost use Rattle.writing.specs.Promise.{fitted, keptAnswer, exponentAnswer, Writes};
+ghost use Rattle.writing.specs.Promise.{keptAnswer, exponentAnswer, Writes, Places};
 ghost use Rattle.framing.specs.Laid.{Laid};
 use exponent::Precision;
 use exponent::Shown;
@@ -59,43 +59,37 @@ fn write_digits(format: u32, n: u64, out: &mut [u8], end: usize) -> usize
     radix::write_before(format, n, out, end)
 }
 
-// Digits with nothing around them but a minus: the way of most calls.
-pub fn write_bare(format: u32, n: u64, negative: bool, out: &mut [u8]) -> Written
-    ensures { λ r. ⌜ Writes (bare negative (plain format n)) (fitted (bare negative (plain format n)) (length (now (out .entry)))) (now (out .entry)) r (now (out .exit)) ⌝ }
+// Digits with nothing around them but a minus: their length, and in out where they have room.
+pub fn write_bare(format: u32, n: u64, negative: bool, out: &mut [u8]) -> usize
+    ensures { λ r. ⌜ Places (bare negative (plain format n)) (now (out .entry)) r (now (out .exit)) ⌝ }
 {
     let count = count_digits(format, n);
     if negative {
         let need = count + 1;
         if out.len() < need {
-            return Written::NoRoom(need);
+            return need;
         }
         write_digits(format, n, out, need);
         out[0] = b'-';
-        return Written::Done(need);
+        return need;
     }
     if out.len() < count {
-        return Written::NoRoom(count);
+        return count;
     }
     write_digits(format, n, out, count);
-    Written::Done(count)
+    count
 }
 
-// Digits with what the options put around them, at the start of out.
-pub fn write_framed(
-    format: u32,
-    n: u64,
-    negative: bool,
-    options: Options,
-    out: &mut [u8],
-) -> Written
+// Digits with what the options put around them: the whole length, and in out where that has room.
+pub fn write_framed(format: u32, n: u64, negative: bool, options: Options, out: &mut [u8]) -> usize
     requires { ⌜ options .fill ≤ 126 ⌝ }
-    ensures { λ r. ⌜ Writes (framed options negative format (plain format n)) (fitted (framed options negative format (plain format n)) (length (now (out .entry)))) (now (out .entry)) r (now (out .exit)) ⌝ }
+    ensures { λ r. ⌜ Places (framed options negative format (plain format n)) (now (out .entry)) r (now (out .exit)) ⌝ }
 {
     let fill = options.fill as u8;
     let layout = lay_out(options, negative, format, count_digits(format, n));
     let need = layout.need;
     if out.len() < need {
-        return Written::NoRoom(need);
+        return need;
     }
     let pad = layout.pad;
     let behind = pad.behind;
@@ -111,7 +105,7 @@ pub fn write_framed(
         out,
         at,
     );
-    Written::Done(need)
+    need
 }
 
 // The letter of an exponent form.

@@ -2,36 +2,41 @@
 // Carries over the impls of Display, Binary, Octal, LowerHex, UpperHex, LowerExp and UpperExp, as one 64-bit core and thin entries by type.
 ghost use mathlib.Core.Bool.{true};
 ghost use mathlib.Core.Path.{_≡_};
+ghost use Prim.Native.Nat.{ℕ, _<_, _≤_};
 ghost use lib.IntN.{pos};
 ghost use lib.ListN.{length};
 ghost use Rattle.kinds.specs.Kinds.{known, inType, meaning};
 ghost use Rattle.writing.specs.Text.{textOf};
-ghost use Rattle.writing.specs.Promise.{house, Unframed, optionsKnown, answerOf, answer, Writes};
+ghost use Rattle.writing.specs.Promise.{house, Unframed, optionsKnown, answerOf, answer, Writes, Places};
 use exponent::Precision;
 use kinds::Kind;
 use writing::Options;
 use writing::Written;
 
-// With nothing around the digits but a minus: the way of most calls, which needs no options to be passed on.
-fn write_unframed(
-    signed: bool,
-    bits: u32,
-    value: u64,
-    format: u32,
-    precision: Precision,
-    out: &mut [u8],
-) -> Written
-    requires { ⌜ (known bits ≡ true) × (inType signed bits (meaning 64 signed value) ≡ true) ⌝ }
-    ensures { λ r. ⌜ ((o : Options) → Unframed o precision → optionsKnown format o ≡ true → Writes (textOf bits (meaning 64 signed value) format o) (answerOf bits (meaning 64 signed value) format o (length (now (out .entry)))) (now (out .entry)) r (now (out .exit))) ⌝ }
+// Decimal and radix with nothing around the digits but a minus: the way of most calls. The length, and in out where it has room.
+fn write_plainly(signed: bool, bits: u32, value: u64, format: u32, out: &mut [u8]) -> usize
+    requires { ⌜ (known bits ≡ true) × (inType signed bits (meaning 64 signed value) ≡ true) × (format ≤ 4) ⌝ }
+    ensures { λ r. ⌜ ((o : Options) (p : Precision) → Unframed o p → Places (textOf bits (meaning 64 signed value) format o) (now (out .entry)) r (now (out .exit))) ⌝ }
 {
     if format == 0 {
         let split = kinds::split_pattern(signed, value);
         return framing::write_bare(format, split.magnitude, split.negative, out);
     }
-    if format <= 4 {
-        let pattern = kinds::own_pattern(signed, bits, value);
-        return framing::write_bare(format, pattern, false, out);
-    }
+    let pattern = kinds::own_pattern(signed, bits, value);
+    framing::write_bare(format, pattern, false, out)
+}
+
+// The exponent form with nothing around it but a minus.
+fn write_exponent_plainly(
+    signed: bool,
+    value: u64,
+    format: u32,
+    precision: Precision,
+    out: &mut [u8],
+) -> Written
+    requires { ⌜ 4 < format ⌝ }
+    ensures { λ r. ⌜ ((bits : ℕ) (o : Options) → Unframed o precision → optionsKnown format o ≡ true → Writes (textOf bits (meaning 64 signed value) format o) (answerOf bits (meaning 64 signed value) format o (length (now (out .entry)))) (now (out .entry)) r (now (out .exit))) ⌝ }
+{
     let split = kinds::split_pattern(signed, value);
     framing::write_bare_exponent(format, split.magnitude, split.negative, precision, out)
 }
@@ -48,13 +53,16 @@ fn write_framed(
     requires { ⌜ (known bits ≡ true) × (inType signed bits (meaning 64 signed value) ≡ true) × (optionsKnown format options ≡ true) ⌝ }
     ensures { λ r. ⌜ Writes (textOf bits (meaning 64 signed value) format options) (answerOf bits (meaning 64 signed value) format options (length (now (out .entry)))) (now (out .entry)) r (now (out .exit)) ⌝ }
 {
+    let room = out.len();
     if format == 0 {
         let split = kinds::split_pattern(signed, value);
-        return framing::write_framed(format, split.magnitude, split.negative, options, out);
+        let need = framing::write_framed(format, split.magnitude, split.negative, options, out);
+        return writing::settle(need, room);
     }
     if format <= 4 {
         let own = kinds::own_pattern(signed, bits, value);
-        return framing::write_framed(format, own, false, options, out);
+        let need = framing::write_framed(format, own, false, options, out);
+        return writing::settle(need, room);
     }
     let split = kinds::split_pattern(signed, value);
     framing::write_framed_exponent(format, split.magnitude, split.negative, options, out)
@@ -79,7 +87,11 @@ fn write_value(
     if options.width == 0 {
         if !options.plus {
             if !options.alternate {
-                return write_unframed(signed, bits, value, format, precision, out);
+                if format <= 4 {
+                    let room = out.len();
+                    return writing::settle(write_plainly(signed, bits, value, format, out), room);
+                }
+                return write_exponent_plainly(signed, value, format, precision, out);
             }
         }
     }
@@ -109,10 +121,16 @@ pub fn write_short(kind: Kind, value: u64, format: u32, out: &mut [u8]) -> Writt
     if !kinds::in_type(kind.signed, kind.bits, value) {
         return Written::ValueRefused;
     }
+    if format <= 4 {
+        let room = out.len();
+        let need = write_plainly(kind.signed, kind.bits, value, format, out);
+        return writing::settle(need, room);
+    }
     if 6 < format {
         return Written::OptionsRefused;
     }
-    write_unframed(kind.signed, kind.bits, value, format, Precision::None, out)
+    let precision = Precision::None;
+    write_exponent_plainly(kind.signed, value, format, precision, out)
 }
 
 // By type, the value by value: type and value need no check.

@@ -1,6 +1,6 @@
 -- Which way each test of the definitions went, and the one answer by the form.
 -- Assumes nothing.
-use mathlib.Core.Bool.{Bool, true, false}
+use mathlib.Core.Bool.{Bool, true, false, cond}
 use mathlib.Core.List.{List, _++_, append-nil}
 use mathlib.Core.Option.{Option}
 use mathlib.Core.Path.{_≡_, refl, sym, ap, ap₂, _∙_}
@@ -10,7 +10,7 @@ use lib.Dec.{eqb, leb}
 use borrow.Author.Tests.{eqb-true, ne-eqb, leb-true, le-leb, lt-leb}
 use lib.IntN.{ℤ, natAbs}
 use lib.ListN.{length}
-use Rattle.buffer.specs.AtEnd.{ended}
+use Rattle.buffer.specs.AtEnd.{ended, begun}
 use Rattle.buffer.proofs.AtEnd.{ended-whole}
 use Rattle.digits.specs.Text.{decimal}
 use Rattle.exponent.specs.Coefficient.{precisionOf}
@@ -23,7 +23,7 @@ use Rattle.padding.proofs.Padding.{plan-none, padded-is}
 use Rattle.radix.specs.Radix.{radix}
 use Rattle.scientific.specs.Layout.{expText}
 use Rattle.scientific.specs.Sci.{sci}
-use Rattle.writing.specs.Promise.{house, Unframed, optionsKnown, fitted, keptAnswer, exponentAnswer, answerOf, answer, Writes}
+use Rattle.writing.specs.Promise.{house, Unframed, optionsKnown, settled, fitted, after, keptAnswer, exponentAnswer, answerOf, answer, Writes, Places}
 use Rattle.writing.specs.Text.{letterOf, framed, bare, plain, textOf}
 use Rattle.writing.specs.declared.Options.{Options}
 use Rattle.writing.specs.declared.Written.the-variants.{Done, TypeRefused, ValueRefused, OptionsRefused, ExponentRefused, NoRoom}
@@ -42,15 +42,26 @@ module _ (o : Options) (negative : Bool) (format : ℕ) (digits : List ℕ) wher
 -- ---- room
 
 module _ (t l : List ℕ) (need : ℕ) (e : need ≡ length t) where
-  pub lacks-room : length l < need → Writes t (fitted t (length l)) l (NoRoom need) l
-  lacks-room h =
-      let f : fitted t (length l) ≡ NoRoom (length t) = rw (lt-leb (length t) (length l) (omega arith)) in
-      rw f (record { answers = ap NoRoom e; leaves = refl })
+  pub lacks-room : length l < need → Places t l need l
+  lacks-room h = record { long = e; leaves = rw (lt-leb (length t) (length l) (omega arith)) refl }
 
-  pub has-room : (l′ : List ℕ) → need ≤ length l → l′ ≡ ended l need t → Writes t (fitted t (length l)) l (Done need) l′
-  has-room l′ h g =
-      let f : fitted t (length l) ≡ Done (length t) = rw (le-leb (length t) (length l) (omega arith)) in
-      rw f (record { answers = ap Done e; leaves = g ∙ rw e (ended-whole l t) })
+  pub has-room : (l′ : List ℕ) → need ≤ length l → l′ ≡ ended l need t → Places t l need l′
+  has-room l′ h g = record { long = e; leaves = rw (le-leb (length t) (length l) (omega arith)) (g ∙ rw e (ended-whole l t)) }
+
+-- the answer for it
+pub settles : {t l : List ℕ} {need : ℕ} {l′ : List ℕ} {r : Written} → Places t l need l′ → r ≡ settled need (length l) → Writes t (fitted t (length l)) l r l′
+settles {t = t} {l = l} P e = record { answers = e ∙ ap (λ (n : ℕ). settled n (length l)) (P .long); leaves = P .leaves ∙ go (leb (length t) (length l)) refl }
+  where
+    go : (b : Bool) → leb (length t) (length l) ≡ b → cond (leb (length t) (length l)) (begun l t) l ≡ after (fitted t (length l)) t l
+    go true h = rw h refl
+    go false h = rw h refl
+
+module _ {t l : List ℕ} {need : ℕ} {l′ : List ℕ} (P : Places t l need l′) where
+  pub settles-room : length l < need → Writes t (fitted t (length l)) l (NoRoom need) l′
+  settles-room h = settles P (rw (lt-leb need (length l) h) refl)
+
+  pub settles-done : need ≤ length l → Writes t (fitted t (length l)) l (Done need) l′
+  settles-done h = settles P (rw (le-leb need (length l) h) refl)
 
 -- ---- the whole text and the one answer, by the form
 
@@ -59,53 +70,50 @@ module _ (bits : ℕ) (z : ℤ) (format : ℕ) (o : Options) (room : ℕ) where
   unfolding answerOf
   options-refused h = rw h
 
+  pub decimal-text : format ≡ 0 → textOf bits z format o ≡ framed o (negative z) format (plain format (natAbs z))
+  unfolding textOf
+  decimal-text e = rw e
+
+  pub radix-text : (format ≡ 0 → ⊥) → format ≤ 4 → textOf bits z format o ≡ framed o false format (plain format (pattern bits z))
+  unfolding textOf
+  radix-text h l = rw (ne-eqb format 0 h, le-leb format 4 l)
+
+  pub exponent-text : 4 < format → textOf bits z format o ≡ framed o (negative z) format (expText (letterOf format) (precisionOf (o .precision)) (natAbs z))
+  unfolding textOf
+  exponent-text l = rw (ne-eqb format 0 (λ e. omega arith), lt-leb format 4 l)
+
   module _ (k : optionsKnown format o ≡ true) where
-    pub decimal-text : format ≡ 0 → textOf bits z format o ≡ framed o (negative z) format (plain format (natAbs z))
-    unfolding textOf
-    decimal-text e = rw e
-
-    pub decimal-answer : format ≡ 0 → answerOf bits z format o room ≡ fitted (textOf bits z format o) room
+    -- a form that needs no more than a number is never refused for its exponent
+    pub plain-answer : format ≤ 4 → answerOf bits z format o room ≡ fitted (textOf bits z format o) room
     unfolding answerOf
-    decimal-answer e = rw (k, le-leb format 4 (omega arith))
-
-    pub radix-text : (format ≡ 0 → ⊥) → format ≤ 4 → textOf bits z format o ≡ framed o false format (plain format (pattern bits z))
-    unfolding textOf
-    radix-text h l = rw (ne-eqb format 0 h, le-leb format 4 l)
-
-    pub radix-answer : format ≤ 4 → answerOf bits z format o room ≡ fitted (textOf bits z format o) room
-    unfolding answerOf
-    radix-answer l = rw (k, le-leb format 4 l)
-
-    pub exponent-text : 4 < format → textOf bits z format o ≡ framed o (negative z) format (expText (letterOf format) (precisionOf (o .precision)) (natAbs z))
-    unfolding textOf
-    exponent-text l = rw (ne-eqb format 0 (λ e. omega arith), lt-leb format 4 l)
+    plain-answer l = rw (k, le-leb format 4 l)
 
     pub exponent-answer : 4 < format → answerOf bits z format o room ≡ exponentAnswer o (negative z) format (natAbs z) room
     unfolding answerOf
     exponent-answer l = rw (k, lt-leb format 4 l, exponent-text l)
 
-    -- from what the layers below were given, to the value
-    module _ (s : Split) (e : s ≡ splitOf z) where
-      sign : s .negative ≡ negative z
-      sign = ap (λ (x : Split). x .negative) e
-
-      size : s .magnitude ≡ natAbs z
-      size = ap (λ (x : Split). x .magnitude) e
-
-      pub decimal-writes : (l : List ℕ) (r : Written) (l′ : List ℕ) → length l ≡ room → format ≡ 0
-          → Writes (framed o (s .negative) format (plain format (s .magnitude))) (fitted (framed o (s .negative) format (plain format (s .magnitude))) (length l)) l r l′
-          → Writes (textOf bits z format o) (answerOf bits z format o room) l r l′
-      decimal-writes l r l′ i f W = rw (decimal-answer f, decimal-text f, ← i, ← sign, ← size) W
-
-      pub exponent-writes : (l : List ℕ) (r : Written) (l′ : List ℕ) → length l ≡ room → 4 < format
-          → Writes (framed o (s .negative) format (expText (letterOf format) (precisionOf (o .precision)) (s .magnitude))) (exponentAnswer o (s .negative) format (s .magnitude) (length l)) l r l′
-          → Writes (textOf bits z format o) (answerOf bits z format o room) l r l′
-      exponent-writes l r l′ i f W = rw (exponent-answer f, exponent-text f, ← i, ← sign, ← size) W
-
-    pub radix-writes : (n : ℕ) → n ≡ pattern bits z → (l : List ℕ) (r : Written) (l′ : List ℕ) → length l ≡ room → (format ≡ 0 → ⊥) → format ≤ 4
-        → Writes (framed o false format (plain format n)) (fitted (framed o false format (plain format n)) (length l)) l r l′
+    pub plain-writes : (l : List ℕ) (n : ℕ) (r : Written) (l′ : List ℕ) → length l ≡ room → format ≤ 4 → Places (textOf bits z format o) l n l′ → r ≡ settled n (length l)
         → Writes (textOf bits z format o) (answerOf bits z format o room) l r l′
-    radix-writes n e l r l′ i f h W = rw (radix-answer h, radix-text f h, ← i, ← e) W
+    plain-writes l n r l′ i h P e = rw (plain-answer h, ← i) (settles P e)
+
+  -- from what the layers below were given, to the value
+  module _ (s : Split) (e : s ≡ splitOf z) where
+    sign : s .negative ≡ negative z
+    sign = ap (λ (x : Split). x .negative) e
+
+    size : s .magnitude ≡ natAbs z
+    size = ap (λ (x : Split). x .magnitude) e
+
+    pub decimal-places : (l : List ℕ) (n : ℕ) (l′ : List ℕ) → format ≡ 0 → Places (framed o (s .negative) format (plain format (s .magnitude))) l n l′ → Places (textOf bits z format o) l n l′
+    decimal-places l n l′ f P = rw (decimal-text f, ← sign, ← size) P
+
+    pub exponent-writes : optionsKnown format o ≡ true → (l : List ℕ) (r : Written) (l′ : List ℕ) → length l ≡ room → 4 < format
+        → Writes (framed o (s .negative) format (expText (letterOf format) (precisionOf (o .precision)) (s .magnitude))) (exponentAnswer o (s .negative) format (s .magnitude) (length l)) l r l′
+        → Writes (textOf bits z format o) (answerOf bits z format o room) l r l′
+    exponent-writes k l r l′ i f W = rw (exponent-answer k f, exponent-text f, ← i, ← sign, ← size) W
+
+  pub radix-places : (m : ℕ) → m ≡ pattern bits z → (l : List ℕ) (n : ℕ) (l′ : List ℕ) → (format ≡ 0 → ⊥) → format ≤ 4 → Places (framed o false format (plain format m)) l n l′ → Places (textOf bits z format o) l n l′
+  radix-places m e l n l′ f h P = rw (radix-text f h, ← e) P
 
 -- the fill is one byte
 pub fill-known : (format : ℕ) (o : Options) → optionsKnown format o ≡ true → o .fill ≤ 126

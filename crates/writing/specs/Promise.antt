@@ -27,9 +27,12 @@ optionsKnown format o = leb format 6 && (leb (o .align) 3 && (leb 32 (o .fill) &
 abbrev pub exponentKept : ℕ → Options → ℤ → Bool
 exponentKept format o z = cond (leb format 4) true (leb (sci (precisionOf (o .precision)) (natAbs z) .expo) 99)
 
--- A text in so many bytes: its length, or that it has no room.
+-- A text of so many bytes in so many: its length, or that it has no room.
+abbrev pub settled : ℕ → ℕ → Written
+settled need room = cond (leb need room) (Done need) (NoRoom need)
+
 abbrev pub fitted : List ℕ → ℕ → Written
-fitted t room = cond (leb (length t) room) (Done (length t)) (NoRoom (length t))
+fitted t room = settled (length t) room
 
 -- The answer to a value z of a type, and that to a 64-bit pattern p.
 unfoldable pub answerOf : ℕ → ℤ → ℕ → Options → ℕ → Written
@@ -74,6 +77,11 @@ after ExponentRefused t l = l
 pub record Writes (t : List ℕ) (a : Written) (l : List ℕ) (r : Written) (l′ : List ℕ) : Type 0 where
   pub answers : r ≡ a
   pub leaves : l′ ≡ after a t l
+
+-- What a layer below promises that is asked for the text t in the buffer l: its length n, and the buffer l′, where the text stands if it has room, and which is else as before.
+pub record Places (t l : List ℕ) (n : ℕ) (l′ : List ℕ) : Type 0 where
+  pub long : n ≡ length t
+  pub leaves : l′ ≡ cond (leb (length t) (length l)) (begun l t) l
 
 -- The house default: no flag, fill space, alignment unset, width 0, precision none.
 abbrev pub house : Options

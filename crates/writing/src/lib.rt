@@ -1,7 +1,7 @@
 // What a writing call is given and answers: the options, the answer, document 01's numbers, and which options are known.
 // The text of a call and the promise of every writing entry are this crate's specs/.
 ghost use mathlib.Core.Path.{_≡_};
-ghost use Rattle.writing.specs.Promise.{house, optionsKnown, number, value};
+ghost use Rattle.writing.specs.Promise.{house, optionsKnown, settled, number, value};
 use exponent::Precision;
 
 // The options of a call.
@@ -86,4 +86,14 @@ pub fn options_known(format: u32, options: Options) -> bool
         return false;
     }
     options.fill <= 126
+}
+
+// The answer for a text of so many bytes that was asked for in so many.
+pub fn settle(need: usize, room: usize) -> Written
+    ensures { λ r. ⌜ r ≡ settled need room ⌝ }
+{
+    if room < need {
+        return Written::NoRoom(need);
+    }
+    Written::Done(need)
 }

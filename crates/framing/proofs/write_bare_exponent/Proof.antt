@@ -11,7 +11,7 @@ use Rattle.exponent.proofs.Joined.{expo-is, sized, text-is}
 use Rattle.scientific.specs.Sci.{sci}
 use Rattle.scientific.specs.Layout.{expText}
 use Rattle.writing.specs.Text.{letterOf, bare}
-use Rattle.writing.proofs.Cases.{lacks-room, has-room, exponent-refused, exponent-kept}
+use Rattle.writing.proofs.Cases.{lacks-room, has-room, settles-room, settles-done, exponent-refused, exponent-kept}
 use borrow.Author.Needs.{needs}
 use Rattle.framing.proofs.write_bare_exponent.Statement.{statement}
 use Rattle.framing.proofs.write_bare_exponent.Tie as tie
@@ -75,7 +75,7 @@ returns-2 c =
     let e = t .before in
     let a = e .before .before .before .before .before .args in
     exponent-kept (precisionOf (a .precision)) (a .n) _ (a .out .now) _ _ (kept e)
-    (rw (below t) (lacks-room (45 ∷ shownText e) (a .out .now) (e .size .result + 1) (omega (arith, long e)) (c .if3 .taken)))
+    (rw (below t) (settles-room (lacks-room (45 ∷ shownText e) (a .out .now) (e .size .result + 1) (omega (arith, long e)) (c .if3 .taken)) (c .if3 .taken)))
 
 letter-of-requires : tie.Need-letter-of-requires
 letter-of-requires c κs = search needs
@@ -104,8 +104,9 @@ returns-3 c =
     let n : 1 + length (shownText e) ≡ e .size .result + 1 = omega (arith, long e) in
     exponent-kept (precisionOf (a .precision)) (a .n) _ (a .out .now) _ _ (kept e)
     (rw (below t)
+    (settles-done
     (has-room (45 ∷ shownText e) (a .out .now) (e .size .result + 1) (omega (arith, long e)) (set (w .last .1 .1 .0) 0 45) (h .if3 .left)
-    (rw (rw (x, n) at (w .ensures)) (ended-front (a .out .now) 0 (e .size .result + 1) 45 (shownText e) (omega (arith, long e)) (h .if3 .left)))))
+    (rw (rw (x, n) at (w .ensures)) (ended-front (a .out .now) 0 (e .size .result + 1) 45 (shownText e) (omega (arith, long e)) (h .if3 .left)))) (h .if3 .left)))
 
 returns-4 : tie.Need-returns-4
 returns-4 c =
@@ -113,7 +114,7 @@ returns-4 c =
     let e = t .before in
     let a = e .before .before .before .before .before .args in
     exponent-kept (precisionOf (a .precision)) (a .n) _ (a .out .now) _ _ (kept e)
-    (rw (from t) (lacks-room (shownText e) (a .out .now) (e .size .result) (long e) (c .if4 .taken)))
+    (rw (from t) (settles-room (lacks-room (shownText e) (a .out .now) (e .size .result) (long e) (c .if4 .taken)) (c .if4 .taken)))
 
 letter-of-requires-2 : tie.Need-letter-of-requires-2
 letter-of-requires-2 c κs = search needs
@@ -138,7 +139,7 @@ returns-5 c =
     let x = is e (l .result) (l .ensures) in
     let n : 0 + length (shownText e) ≡ e .size .result = omega (arith, long e) in
     exponent-kept (precisionOf (a .precision)) (a .n) _ (a .out .now) _ _ (kept e)
-    (rw (from t) (has-room (shownText e) (a .out .now) (e .size .result) (long e) (w .last .1 .1 .0) (h .if4 .left) (rw (x, n) at (w .ensures))))
+    (rw (from t) (settles-done (has-room (shownText e) (a .out .now) (e .size .result) (long e) (w .last .1 .1 .0) (h .if4 .left) (rw (x, n) at (w .ensures))) (h .if4 .left)))
 
 pub write-bare-exponent-spec : {M : Type 1} → statement M
 write-bare-exponent-spec =

@@ -9,7 +9,7 @@ use Rattle.padding.specs.Padding.{signOf, prefixOf}
 use Rattle.scientific.specs.Layout.{expText}
 use Rattle.framing.specs.Laid.{Laid}
 use Rattle.writing.specs.Text.{letterOf}
-use Rattle.writing.proofs.Cases.{exponent-refused, exponent-kept}
+use Rattle.writing.proofs.Cases.{settles-room, settles-done, exponent-refused, exponent-kept}
 use Rattle.framing.proofs.Laid.{Digits, digits-of, refused-of, need-is, no-room, in-room}
 use borrow.Author.Needs.{needs}
 use Rattle.framing.proofs.write_framed_exponent.Statement.{statement}
@@ -80,7 +80,7 @@ returns-2 c =
     let sh = l .before .before .before in
     let a = sh .before .before .before .before .before .before .before .args in
     exponent-kept (precisionOf (a .options .precision)) (a .n) _ (a .out .now) _ _ (digits sh .kept)
-    (no-room (a .options) (a .negative) (a .format) (shownText sh) (l .lay-out .result .pad) (l .lay-out .result .need) (laid l) (a .out .now) (c .if1 .taken))
+    (settles-room (no-room (a .options) (a .negative) (a .format) (shownText sh) (l .lay-out .result .pad) (l .lay-out .result .need) (laid l) (a .out .now) (c .if1 .taken)) (c .if1 .taken))
 
 fill-requires : tie.Need-fill-requires
 fill-requires c κs = let e = c .before .before in (omega (arith, pieces (e .before)), e .if1 .left)
@@ -118,7 +118,8 @@ returns-3 c =
     let w = c .before .before .before .before .before .before .write-before in
     let p = c .before .before .put-front in
     exponent-kept (precisionOf (a .options .precision)) (a .n) _ (a .out .now) _ _ (d .kept)
-    (in-room (a .options) (a .negative) (a .format) (shownText sh) (l .lay-out .result .pad) (l .lay-out .result .need) (laid l) (a .out .now) (f .last .1 .1 .0) (w .last .1 .1 .0) (p .last .1 .1 .1 .1 .1 .1 .0) (w .result) (e .if1 .left) (f .ensures) (rw (d .text) at (w .ensures .1)) (rw (d .size) at (w .ensures .0)) (p .ensures))
+    (settles-done
+    (in-room (a .options) (a .negative) (a .format) (shownText sh) (l .lay-out .result .pad) (l .lay-out .result .need) (laid l) (a .out .now) (f .last .1 .1 .0) (w .last .1 .1 .0) (p .last .1 .1 .1 .1 .1 .1 .0) (w .result) (e .if1 .left) (f .ensures) (rw (d .text) at (w .ensures .1)) (rw (d .size) at (w .ensures .0)) (p .ensures)) (e .if1 .left))
 
 pub write-framed-exponent-spec : {M : Type 1} → statement M
 write-framed-exponent-spec =

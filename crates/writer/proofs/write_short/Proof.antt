@@ -2,10 +2,12 @@
 use mathlib.Core.Bool.{true}
 use mathlib.Core.Path.{_≡_, refl, sym, _∙_}
 use borrow.Author.Tests.{not-true, not-false}
+use native.Mathlib.Omega.{arith}
 use lib.ListN.{length}
+use Rattle.exponent.specs.declared.Precision.the-variants.{None}
 use Rattle.kinds.specs.Kinds.{known, inType, meaning}
 use Rattle.writing.specs.Promise.{house}
-use Rattle.writing.proofs.Cases.{known-range, options-refused, house-unframed, house-known, house-unknown, type-refused, value-refused, judged}
+use Rattle.writing.proofs.Cases.{known-range, options-refused, plain-writes, house-unframed, house-known, house-unknown, type-refused, value-refused, judged}
 use borrow.Author.Needs.{needs}
 use Rattle.writer.proofs.write_short.Statement.{statement}
 use Rattle.writer.proofs.write_short.Tie as tie
@@ -31,28 +33,49 @@ judged-are t =
     let e = t .before .before in
     (sym (e .before .is-known .ensures) ∙ not-false _ (e .if1 .left), sym (t .before .in-type .ensures) ∙ not-false _ (t .if2 .left))
 
-returns-3 : tie.Need-returns-3
-returns-3 c =
-    let t = c .before in
-    let a = t .before .before .before .before .before .args in
-    let k = judged-are t in
-    judged (a .kind .signed) (a .kind .bits) (a .value) (a .format) house (a .out .now) (k .0) (k .1) _ _
-    (rw (options-refused (a .kind .bits) (meaning 64 (a .kind .signed) (a .value)) (a .format) house (length (a .out .now)) (house-unknown (a .format) (c .if3 .taken))) (record { answers = refl; leaves = refl }))
+write-plainly-requires : tie.Need-write-plainly-requires
+write-plainly-requires c κs = let k = judged-are (c .before .before) in (k .0, k .1, c .before .if3 .taken)
 
-write-unframed-requires : tie.Need-write-unframed-requires
-write-unframed-requires c κs = judged-are (c .before .before)
+settle-requires : tie.Need-settle-requires
+settle-requires c κs = search needs
 
 same-length : tie.Need-same-length
 same-length c = search needs
 
-returns-4 : tie.Need-returns-4
-returns-4 c =
-    let f = c .before .before .before .before in
+returns-3 : tie.Need-returns-3
+returns-3 c =
+    let f = c .before .before .before .before .before in
     let t = f .before in
     let a = t .before .before .before .before .before .args in
-    let w = c .before .before .write-unframed in
+    let w = c .before .before .before .write-plainly in
     let k = judged-are t in
-    judged (a .kind .signed) (a .kind .bits) (a .value) (a .format) house (a .out .now) (k .0) (k .1) (w .result) (w .last .1 .1 .1 .1 .1 .0) (w .ensures house house-unframed (house-known (a .format) (f .if3 .left)))
+    let four = f .if3 .taken in
+    judged (a .kind .signed) (a .kind .bits) (a .value) (a .format) house (a .out .now) (k .0) (k .1) _ _
+    (plain-writes (a .kind .bits) (meaning 64 (a .kind .signed) (a .value)) (a .format) house (length (a .out .now)) (house-known (a .format) (omega (arith, four))) (a .out .now) (w .result) (c .settle .result) (w .last .1 .1 .1 .1 .0) refl four
+    (w .ensures house None house-unframed) (c .settle .ensures))
+
+returns-4 : tie.Need-returns-4
+returns-4 c =
+    let t = c .before .before in
+    let a = t .before .before .before .before .before .args in
+    let k = judged-are t in
+    judged (a .kind .signed) (a .kind .bits) (a .value) (a .format) house (a .out .now) (k .0) (k .1) _ _
+    (rw (options-refused (a .kind .bits) (meaning 64 (a .kind .signed) (a .value)) (a .format) house (length (a .out .now)) (house-unknown (a .format) (c .if4 .taken))) (record { answers = refl; leaves = refl }))
+
+write-exponent-plainly-requires : tie.Need-write-exponent-plainly-requires
+write-exponent-plainly-requires c κs = c .before .before .if3 .left
+
+same-length-2 : tie.Need-same-length-2
+same-length-2 c = search needs
+
+returns-5 : tie.Need-returns-5
+returns-5 c =
+    let f = c .before .before .before .before in
+    let t = f .before .before in
+    let a = t .before .before .before .before .before .args in
+    let w = c .before .before .write-exponent-plainly in
+    let k = judged-are t in
+    judged (a .kind .signed) (a .kind .bits) (a .value) (a .format) house (a .out .now) (k .0) (k .1) (w .result) (w .last .1 .1 .1 .1 .0) (w .ensures (a .kind .bits) house house-unframed (house-known (a .format) (f .if4 .left)))
 
 pub write-short-spec : {M : Type 1} → statement M
 write-short-spec =
@@ -62,7 +85,11 @@ write-short-spec =
     returns
     in-type-requires
     returns-2
-    returns-3
-    write-unframed-requires
+    write-plainly-requires
+    settle-requires
     same-length
-    returns-4)
+    returns-3
+    returns-4
+    write-exponent-plainly-requires
+    same-length-2
+    returns-5)
