@@ -2,4 +2,5 @@
 pub mod Lanes
 pub mod Letters
 pub mod Tails
+pub mod Wider
 pub mod Bits
