@@ -4,3 +4,4 @@ pub mod Letters
 pub mod Tails
 pub mod Wider
 pub mod Bits
+pub mod Examples

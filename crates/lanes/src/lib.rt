@@ -34,7 +34,7 @@ fn spread8(n: u64) -> u64
     ((bytes >> 4) & 0x000f_000f_000f_000f) + ((bytes & 0x000f_000f_000f_000f) << 8)
 }
 
-// The text of the four hex digits of n: `0` on, and from ten the letter on, which is where six more reach the next bit of a lane.
+// The text of the four hex digits of n. Six more carry a digit from ten on into the next bit of its lane: there the step from `:` (58) to the letter is added.
 pub fn four(letter: u32, n: u32) -> u32
     requires { ⌜ (57 < letter) × (letter ≤ 250) × (n < 65536) ⌝ }
     ensures { λ r. ⌜ bytesOf 4 r ≡ lastText (digitByte letter) 16 4 n ⌝ }
