@@ -1,7 +1,6 @@
 -- The definitions on examples, which antt computes.
 -- Assumes nothing.
 use mathlib.Core.Path.{_≡_, refl}
-use mathlib.Core.List.{[], _∷_}
 use Rattle.digits.specs.Digits.{last}
 use Rattle.lanes.specs.Lanes.{word}
 use Rattle.lanes.specs.Letters.{digitByte}
