@@ -78,10 +78,10 @@ bytes-are n x e =
     let h = halves-are x (a % 256) (b % 256) (c % 256) (d % 256) e (small a) (small b) in
     rw (h .0, h .1, digits-mod (b % 256) (small a), digits-div (b % 256) (small a), digits-mod (d % 256) (small c), digits-div (d % 256) (small c))
 
-abbrev pub halvesOf : ℕ → ℕ
+abbrev halvesOf : ℕ → ℕ
 halvesOf x = bitAnd (bitOr x (x * 2 ^ 16 % 2 ^ 64)) 0x0000_ffff_0000_ffff
 
-abbrev pub bytesIn : ℕ → ℕ
+abbrev bytesIn : ℕ → ℕ
 bytesIn y = bitAnd (bitOr y (y * 2 ^ 8 % 2 ^ 64)) 0x00ff_00ff_00ff_00ff
 
 halves-wider : (x : ℕ) → x < 4294967296 → halvesOf x ≡ word (2 ^ 32) ((x % 65536) ∷ (x / 65536) ∷ [])

@@ -23,14 +23,22 @@ fn swapped(n: u32) -> u32
     (n >> 24) + ((n >> 16) % 256 << 8) + ((n >> 8) % 256 << 16) + ((n % 256) << 24)
 }
 
-// The eight hex digits of n. Its bytes, the first lowest, go into lanes of twice the size, and the halves of each into lanes of half the size.
+// They go into lanes of twice the size, the first lowest.
+fn wide_bytes(n: u64) -> u64
+    requires { ⌜ n < 4294967296 ⌝ }
+    ensures { λ r. ⌜ r ≡ word 65536 (last 256 4 n) ⌝ }
+{
+    let x = swapped(n as u32) as u64;
+    let halves = (x | (x << 16)) & 0x0000_ffff_0000_ffff;
+    (halves | (halves << 8)) & 0x00ff_00ff_00ff_00ff
+}
+
+// The eight hex digits of n: the halves of each byte go into lanes of half the size.
 fn spread8(n: u64) -> u64
     requires { ⌜ n < 4294967296 ⌝ }
     ensures { λ r. ⌜ r ≡ word 256 (last 16 8 n) ⌝ }
 {
-    let x = swapped(n as u32) as u64;
-    let halves = (x | (x << 16)) & 0x0000_ffff_0000_ffff;
-    let bytes = (halves | (halves << 8)) & 0x00ff_00ff_00ff_00ff;
+    let bytes = wide_bytes(n);
     ((bytes >> 4) & 0x000f_000f_000f_000f) + ((bytes & 0x000f_000f_000f_000f) << 8)
 }
 
