@@ -69,7 +69,7 @@ masked c j ds h =
 
 -- ---- two numbers in the place of each: lanes of half the size
 
-both : (ℕ → ℕ) → (ℕ → ℕ) → List ℕ → List ℕ
+unfoldable pub both : (ℕ → ℕ) → (ℕ → ℕ) → List ℕ → List ℕ
 both f g [] = []
 both f g (d ∷ ds) = f d ∷ g d ∷ both f g ds
 

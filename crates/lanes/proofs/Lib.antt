@@ -2,4 +2,6 @@
 pub mod Lanes
 pub mod Letters
 pub mod Tails
+pub mod Wider
 pub mod Bits
+pub mod Examples

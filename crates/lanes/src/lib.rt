@@ -16,17 +16,33 @@ fn spread4(n: u32) -> u32
     ((bytes >> 4) & 0x000f_000f) + ((bytes & 0x000f_000f) << 8)
 }
 
-// The eight hex digits of n.
+// The four bytes of n in the other order.
+fn swapped(n: u32) -> u32
+    ensures { λ r. ⌜ r ≡ word 256 (last 256 4 n) ⌝ }
+{
+    (n >> 24) + ((n >> 16) % 256 << 8) + ((n >> 8) % 256 << 16) + ((n % 256) << 24)
+}
+
+// They go into lanes of twice the size, the first lowest.
+fn wide_bytes(n: u64) -> u64
+    requires { ⌜ n < 4294967296 ⌝ }
+    ensures { λ r. ⌜ r ≡ word 65536 (last 256 4 n) ⌝ }
+{
+    let x = swapped(n as u32) as u64;
+    let halves = (x | (x << 16)) & 0x0000_ffff_0000_ffff;
+    (halves | (halves << 8)) & 0x00ff_00ff_00ff_00ff
+}
+
+// The eight hex digits of n: the halves of each byte go into lanes of half the size.
 fn spread8(n: u64) -> u64
     requires { ⌜ n < 4294967296 ⌝ }
     ensures { λ r. ⌜ r ≡ word 256 (last 16 8 n) ⌝ }
 {
-    let halves = (n >> 16) + ((n % 65536) << 32);
-    let bytes = ((halves >> 8) & 0x0000_00ff_0000_00ff) + ((halves & 0x0000_00ff_0000_00ff) << 16);
+    let bytes = wide_bytes(n);
     ((bytes >> 4) & 0x000f_000f_000f_000f) + ((bytes & 0x000f_000f_000f_000f) << 8)
 }
 
-// The text of the four hex digits of n: `0` on, and from ten the letter on, which is where six more reach the next bit of a lane.
+// The text of the four hex digits of n. Six more carry a digit from ten on into the next bit of its lane: there the step from `:` (58) to the letter is added.
 pub fn four(letter: u32, n: u32) -> u32
     requires { ⌜ (57 < letter) × (letter ≤ 250) × (n < 65536) ⌝ }
     ensures { λ r. ⌜ bytesOf 4 r ≡ lastText (digitByte letter) 16 4 n ⌝ }
