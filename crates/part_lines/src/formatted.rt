@@ -1,25 +1,12 @@
 // The lines `p` and 12 numbers: the length of the source, the sign code, the kind and two numbers of each of three parts, the room.
-// The two numbers are how many zeros, a number, or start and length of the copied run; what a kind does not use is not read.
+use crate::row::SOURCE;
+use crate::row::part;
+use crate::row::shown;
 use fields::field;
 use fields::narrow;
-use fields::narrow::half;
 use fields::narrow::word;
 use fields::output;
 use parts::Formatted;
-use parts::Part;
-
-// What the parts copy from, as far as the line says.
-const SOURCE: [u8; 26] = *b"abcdefghijklmnopqrstuvwxyz";
-
-fn part(kind: u64, a: u64, b: u64) -> Part {
-    Part {
-        kind: word(kind),
-        number: half(a),
-        zeros: a,
-        start: a,
-        len: b,
-    }
-}
 
 fn formatted(fields: &[u64; 40]) -> Formatted {
     Formatted {
@@ -30,18 +17,15 @@ fn formatted(fields: &[u64; 40]) -> Formatted {
     }
 }
 
-// `NUMBER VALUE` of the length, and `NUMBER VALUE [BUFFER]` of writing over a buffer of so many dots.
+// The length, and writing over a buffer of so many dots.
 fn both(fields: &[u64; 40], source: &[u8], out: &mut [u8; 4096], waiting: usize) -> usize {
     let mut space = [b'.'; 512];
     let n = narrow::within(fields[11] as usize, &space);
     let room = &mut space[..n];
     let all = formatted(fields);
     let length = all.length(source.len());
-    let mut now = output::put_answer(out, waiting, length.number() as u64, length.value());
-    now = output::put(out, now, b' ');
     let wrote = all.write(source, room);
-    now = output::put_answer(out, now, wrote.number() as u64, wrote.value());
-    output::put_buffer(out, now, room)
+    shown(length, wrote, room, out, waiting)
 }
 
 pub fn answer(line: &[u8], out: &mut [u8; 4096], waiting: usize) -> usize {

@@ -3,10 +3,14 @@
 //
 //     p and 12 numbers      source sign, kind and two numbers for each of three parts, room: `NUMBER VALUE` of Formatted::length,
 //                           and `NUMBER VALUE [BUFFER]` of Formatted::write
+//     l and 4 to 40 numbers count source sign, kind and two numbers for each of so many parts, 12 at most, room: the same of
+//                           part_list::length12 and write12
 use fields::lines;
 use fields::output;
 
 mod formatted;
+mod list;
+mod row;
 
 fn answer(line: &[u8], out: &mut [u8; 4096], waiting: usize) -> usize {
     if line.len() < 2 {
@@ -14,6 +18,7 @@ fn answer(line: &[u8], out: &mut [u8; 4096], waiting: usize) -> usize {
     }
     match line[0] {
         b'p' => formatted::answer(line, out, waiting),
+        b'l' => list::answer(line, out, waiting),
         _ => output::put(out, waiting, b'?'),
     }
 }
