@@ -91,6 +91,7 @@ uninstall:
 list: archive
 	@cd oracle && $(cargo_run) -- list $(LIST_LINES) $(LIST_FULL) $(LIST_SEED) --out ../crates/replay
 	@cd oracle && $(cargo_run) -- parts $(LIST_PARTS) $(LIST_SEED) --out ../crates/replay_parts
+	@cd oracle && $(cargo_run) -- part-list $(LIST_PARTS) $(LIST_SEED) --out ../crates/replay_lists
 
 clean:
 	rm -rf build target

@@ -1,16 +1,6 @@
 // What a row writes behind its label, over a buffer of so many dots, 24 at most.
+use fields::narrow::within;
 use kinds::Split;
-ghost use Rattle.io.specs.Counts.{Counts};
-
-// The room as far as the space goes.
-fn within(room: usize, space: &[u8]) -> usize
-    ensures { λ r. ⌜ Counts r (now (space .entry)) ⌝ }
-{
-    if room <= space.len() {
-        return room;
-    }
-    space.len()
-}
 
 // A text; where there is none, the number of the refusal NO_ROOM.
 fn text(bytes: &[u8]) {
