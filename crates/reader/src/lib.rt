@@ -6,21 +6,23 @@ ghost use lib.ListN.{length};
 ghost use Rattle.radix.specs.Radix.{digitByte};
 ghost use Rattle.reading.specs.Formats.{decimalForm, radixForm, exponentForm, form};
 ghost use Rattle.reader.specs.Answers.{Answers, Judges};
+use digit_runs::TENTH;
+use digit_words::NONE;
 use exponent_texts::find_exponent;
 use kinds::Kind;
 use outcomes::Outcome;
 use outcomes::of_magnitude;
 use outcomes::of_pattern;
 use whole_texts::Found;
-use whole_texts::find_decimal;
+use whole_texts::find_short;
 use whole_texts::find_whole;
 
-// A decimal text.
+// A decimal text, byte by byte.
 fn read_decimal(signed: bool, bits: u32, text: &[u8]) -> Outcome
     requires { ⌜ (1 ≤ bits) × (bits ≤ 64) × (0 < length (now text)) ⌝ }
     ensures { λ r. ⌜ Judges (decimalForm signed) signed bits (now (text .entry)) r ⌝ }
 {
-    match find_decimal(text, signed) {
+    match find_whole(text, signed, 10, TENTH, b'a') {
         Found::Wrong(k) => Outcome::Shape(k),
         Found::Broken => Outcome::NotCanonical,
         Found::Number { minus, value, over } => {
@@ -86,6 +88,19 @@ fn judge(signed: bool, bits: u32, format: u32, text: &[u8]) -> Outcome
     }
 }
 
+// A text of format 0, which is decimal: at once where it is a short number, and else as any text.
+fn read_at_once(signed: bool, bits: u32, format: u32, text: &[u8]) -> Outcome
+    requires { ⌜ (1 ≤ bits) × (bits ≤ 64) × (format ≡ 0) × (0 < length (now text)) ⌝ }
+    ensures { λ r. ⌜ Judges (form signed bits format) signed bits (now (text .entry)) r ⌝ }
+{
+    let found = find_short(text, signed);
+    let value = found.value;
+    if value == NONE {
+        return judge(signed, bits, format, text);
+    }
+    of_magnitude(signed, bits, found.minus, value)
+}
+
 // Reads a plain text as a value of the type. Checks in the order type, format, empty, shape, canonical, range.
 pub fn read(kind: Kind, format: u32, text: &[u8]) -> Outcome
     ensures { λ r. ⌜ Answers (kind .signed) (kind .bits) format (now (text .entry)) r ⌝ }
@@ -97,6 +112,9 @@ pub fn read(kind: Kind, format: u32, text: &[u8]) -> Outcome
         }
         if text.len() == 0 {
             return Outcome::Empty;
+        }
+        if format == 0 {
+            return read_at_once(kind.signed, bits, format, text);
         }
         return judge(kind.signed, bits, format, text);
     }
