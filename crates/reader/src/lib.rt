@@ -1,11 +1,13 @@
 // The reader: plain texts back to values, of any type, in any of the seven formats. All new: the Rust's own parsing is not carried over.
 // One pass over the text, in constant memory.
+ghost use mathlib.Core.Bool.{true};
 ghost use mathlib.Core.Path.{_≡_};
 ghost use Prim.Native.Nat.{_-_, _/_, _^_, _≤_, _<_};
 ghost use lib.ListN.{length};
 ghost use Rattle.radix.specs.Radix.{digitByte};
 ghost use Rattle.reading.specs.Formats.{decimalForm, radixForm, exponentForm, form};
-ghost use Rattle.reader.specs.Answers.{Answers, Judges};
+ghost use Rattle.outcomes.specs.declared.Outcome.the-variants.{Done};
+ghost use Rattle.reader.specs.Answers.{Answers, Judges, Told};
 use digit_runs::TENTH;
 use digit_words::NONE;
 use exponent_texts::find_exponent;
@@ -88,19 +90,6 @@ fn judge(signed: bool, bits: u32, format: u32, text: &[u8]) -> Outcome
     }
 }
 
-// A text of format 0, which is decimal: at once where it is a short number, and else as any text.
-fn read_at_once(signed: bool, bits: u32, format: u32, text: &[u8]) -> Outcome
-    requires { ⌜ (1 ≤ bits) × (bits ≤ 64) × (format ≡ 0) × (0 < length (now text)) ⌝ }
-    ensures { λ r. ⌜ Judges (form signed bits format) signed bits (now (text .entry)) r ⌝ }
-{
-    let found = find_short(text, signed);
-    let value = found.value;
-    if value == NONE {
-        return judge(signed, bits, format, text);
-    }
-    of_magnitude(signed, bits, found.minus, value)
-}
-
 // Reads a plain text as a value of the type. Checks in the order type, format, empty, shape, canonical, range.
 pub fn read(kind: Kind, format: u32, text: &[u8]) -> Outcome
     ensures { λ r. ⌜ Answers (kind .signed) (kind .bits) format (now (text .entry)) r ⌝ }
@@ -113,10 +102,57 @@ pub fn read(kind: Kind, format: u32, text: &[u8]) -> Outcome
         if text.len() == 0 {
             return Outcome::Empty;
         }
-        if format == 0 {
-            return read_at_once(kind.signed, bits, format, text);
-        }
         return judge(kind.signed, bits, format, text);
     }
     Outcome::TypeRefused
+}
+
+// The value that a text stands for, where it was found at once.
+pub struct Quick {
+    pub done: bool,
+    pub value: u64,
+}
+
+// The value of an outcome, where it has one.
+fn value_only(outcome: Outcome) -> Quick
+    ensures { λ r. ⌜ (r .done ≡ true → outcome ≡ Done (r .value)) ⌝ }
+{
+    if let Outcome::Done(value) = outcome {
+        return Quick { done: true, value };
+    }
+    Quick {
+        done: false,
+        value: 0,
+    }
+}
+
+// A decimal text of up to 20 digits at once. Where that gives no value, `read` says why. The widest types come first, where less is to be tested.
+pub fn read_short(kind: Kind, text: &[u8]) -> Quick
+    ensures { λ r. ⌜ Told (kind .signed) (kind .bits) (now (text .entry)) r ⌝ }
+{
+    if text.len() == 0 {
+        return Quick {
+            done: false,
+            value: 0,
+        };
+    }
+    let found = find_short(text, kind.signed);
+    let value = found.value;
+    if value == NONE {
+        return Quick {
+            done: false,
+            value: 0,
+        };
+    }
+    let bits = kind.bits;
+    if bits == 64 {
+        return value_only(of_magnitude(kind.signed, 64, found.minus, value));
+    }
+    if kinds::is_known(bits) {
+        return value_only(of_magnitude(kind.signed, bits, found.minus, value));
+    }
+    Quick {
+        done: false,
+        value: 0,
+    }
 }

@@ -16,44 +16,20 @@ returns c = (sym (c .before .before .is-known .ensures) ∙ c .before .if1 .take
 returns-2 : tie.Need-returns-2
 returns-2 c = (sym (c .before .before .before .is-known .ensures) ∙ c .before .before .if1 .taken, c .before .if2 .left, empty _ (omega (arith, c .if3 .taken)))
 
-read-at-once-requires : tie.Need-read-at-once-requires
-read-at-once-requires c κs =
-    let k = c .before .before .before in
-    let n = known-bits _ (sym (k .before .is-known .ensures) ∙ k .if1 .taken) in
-    (n .0, n .1, c .if4 .taken, (let h = c .before .if3 .left in omega arith))
+judge-requires : tie.Need-judge-requires
+judge-requires c κs =
+    let k = known-bits _ (sym (c .before .before .before .is-known .ensures) ∙ c .before .before .if1 .taken) in
+    (k .0, k .1, c .before .if2 .left, (let h = c .if3 .left in omega arith))
 
 returns-3 : tie.Need-returns-3
 returns-3 c =
-    let k = c .before .before .before .before in
-    let a = k .before .before .before .args in
-    passed (a .kind .signed) (a .kind .bits) (a .format) (a .text .now) (c .read-at-once .result) (sym (k .before .is-known .ensures) ∙ k .if1 .taken) (c .before .before .before .if2 .left)
-    (let h = c .before .before .if3 .left in omega arith) (c .read-at-once .ensures)
-
-judge-requires : tie.Need-judge-requires
-judge-requires c κs =
-    let k = c .before .before .before in
-    let n = known-bits _ (sym (k .before .is-known .ensures) ∙ k .if1 .taken) in
-    (n .0, n .1, c .before .before .if2 .left, (let h = c .before .if3 .left in omega arith))
+    let a = c .before .before .before .before .before .before .args in
+    passed (a .kind .signed) (a .kind .bits) (a .format) (a .text .now) (c .judge .result) (sym (c .before .before .before .before .is-known .ensures) ∙ c .before .before .before .if1 .taken) (c .before .before .if2 .left)
+    (let h = c .before .if3 .left in omega arith) (c .judge .ensures)
 
 returns-4 : tie.Need-returns-4
-returns-4 c =
-    let k = c .before .before .before .before in
-    let a = k .before .before .before .args in
-    passed (a .kind .signed) (a .kind .bits) (a .format) (a .text .now) (c .judge .result) (sym (k .before .is-known .ensures) ∙ k .if1 .taken) (c .before .before .before .if2 .left)
-    (let h = c .before .before .if3 .left in omega arith) (c .judge .ensures)
-
-returns-5 : tie.Need-returns-5
-returns-5 c = sym (c .before .is-known .ensures) ∙ c .if1 .left
+returns-4 c = sym (c .before .is-known .ensures) ∙ c .if1 .left
 
 pub read-spec : {M : Type 1} → statement M
 read-spec =
-    tie.close
-    (tie.spec
-    is-known-requires
-    returns
-    returns-2
-    read-at-once-requires
-    returns-3
-    judge-requires
-    returns-4
-    returns-5)
+    tie.close (tie.spec is-known-requires returns returns-2 judge-requires returns-3 returns-4)
