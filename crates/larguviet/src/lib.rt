@@ -102,7 +102,8 @@ fn read_any(kind: Kind, format: u32, text: &[u8]) -> Answer
     }
 }
 
-// A plain text back to its value. What most calls hand over, a short decimal text, is read at once.
+// A plain text back to its value. What most calls hand over, a short decimal text, is read at once; its answer stays in registers,
+// since those of read_any are copied out of memory only where it is called.
 #[no_mangle]
 pub extern "C" fn lgv_read(bits: u32, is_signed: u32, format: u32, text: &[u8]) -> Answer
     ensures { λ r. ⌜ Reads (set «is_signed») bits format (now (text .entry)) (r .number) (r .value) ⌝ }
@@ -119,9 +120,17 @@ pub extern "C" fn lgv_read(bits: u32, is_signed: u32, format: u32, text: &[u8]) 
                 value: found.value,
             };
         }
-        return read_any(kind, format, text);
+        let any = read_any(kind, format, text);
+        return Answer {
+            number: any.number,
+            value: any.value,
+        };
     }
-    read_any(kind, format, text)
+    let any = read_any(kind, format, text);
+    Answer {
+        number: any.number,
+        value: any.value,
+    }
 }
 
 // The decimal of a u64 at the end of out: where it starts, or out's length where it has no room and nothing is changed.

@@ -14,7 +14,6 @@ use Rattle.digits.proofs.Digits.{valueFrom-append}
 use Rattle.digits.proofs.Last.{valueFrom-is}
 use Rattle.words.specs.Bytes.{bytesOf}
 use Rattle.words.proofs.Joined.{bytes-cons, bytes-join}
-use Rattle.digit_words.specs.Words.{Figures}
 use Rattle.digit_words.proofs.Shifts.{Below-take, Below-append, value-zeros, low, around-below}
 use Rattle.twenty_digits.specs.Numbers.{Number}
 
@@ -27,6 +26,14 @@ map-drop : (f : ℕ → ℕ) (j : ℕ) (l : List ℕ) → map f (drop j l) ≡ d
 map-drop f zero l = refl
 map-drop f (suc j) [] = refl
 map-drop f (suc j) (x ∷ l) = map-drop f j l
+
+-- the bytes of w are digits, and those of u their text
+pub record Figures (u w : ℕ) : Type 0 where
+  pub each : Below 10 (bytesOf 8 w)
+  pub text : bytesOf 8 u ≡ map ascii (bytesOf 8 w)
+
+pub faultless : {u w : ℕ} → Below 10 (bytesOf 8 w) → (Below 10 (bytesOf 8 w) → bytesOf 8 u ≡ map ascii (bytesOf 8 w)) → Figures u w
+faultless d f = record { each = d; text = f d }
 
 -- a text behind a text
 pub joined : {l m : List ℕ} {a b : ℕ} → Number l a → Number m b → (k : ℕ) → length m ≡ k → Number (l ++ m) (a * 10 ^ k + b)

@@ -7,6 +7,7 @@ ghost use lib.ListN.{length, take};
 ghost use Rattle.digits.specs.Digits.{value};
 ghost use Rattle.twenty_digits.specs.Numbers.{Number};
 use digit_words::NONE;
+use digit_words::faults;
 use digit_words::figures;
 use digit_words::number;
 use digit_words::number_around;
@@ -18,10 +19,7 @@ use words::load8;
 fn digit(byte: u8) -> u64
     ensures { λ r. ⌜ (r < 10 → byte ≡ 48 + r) ⌝ }
 {
-    if byte < 48 {
-        return 10;
-    }
-    (byte - 48) as u64
+    std::num::wrapping_sub_u8(byte, 48) as u64
 }
 
 // The number of the first two digits without the last k of them, and the third behind.
@@ -61,7 +59,7 @@ fn up_to_seven(text: &[u8]) -> u64
 {
     let n = text.len();
     let w = figures(load4(text, 0) + load4(text, n - 4) * 4294967296);
-    if w == NONE {
+    if faults(w) != 0 {
         return NONE;
     }
     number_around(w, 8 - n)
@@ -73,7 +71,7 @@ fn eight(text: &[u8]) -> u64
     ensures { λ r. ⌜ ((r ≡ 0xffff_ffff_ffff_ffff → ⊥) → Number (now (text .entry)) r) ⌝ }
 {
     let w = figures(load8(text, 0));
-    if w == NONE {
+    if faults(w) != 0 {
         return NONE;
     }
     number(w)
@@ -86,11 +84,8 @@ fn up_to_sixteen(text: &[u8]) -> u64
 {
     let n = text.len();
     let w = figures(load8(text, n - 8));
-    if w == NONE {
-        return NONE;
-    }
     let x = figures(load8(text, 0));
-    if x == NONE {
+    if faults(w) | faults(x) != 0 {
         return NONE;
     }
     number_before(x, 16 - n) * 100000000 + number(w)
@@ -103,15 +98,9 @@ fn up_to_twenty(text: &[u8]) -> u64
 {
     let n = text.len();
     let w = figures(load8(text, n - 8));
-    if w == NONE {
-        return NONE;
-    }
     let m = figures(load8(text, n - 16));
-    if m == NONE {
-        return NONE;
-    }
     let x = figures(load8(text, 0));
-    if x == NONE {
+    if faults(w) | (faults(m) | faults(x)) != 0 {
         return NONE;
     }
     let top = number_before(x, 24 - n);

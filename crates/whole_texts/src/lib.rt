@@ -57,21 +57,12 @@ pub fn find_short(text: &[u8], may: bool) -> Magnitude
     let minus = 0 < start;
     let value = number_of(&text[start..]);
     if value == NONE {
-        return Magnitude {
-            minus,
-            value: NONE,
-        };
+        return Magnitude { minus, value: NONE };
     }
     if text[start] == 48 {
         if 1 < text.len() {
-            return Magnitude {
-                minus,
-                value: NONE,
-            };
+            return Magnitude { minus, value: NONE };
         }
     }
-    Magnitude {
-        minus,
-        value,
-    }
+    Magnitude { minus, value }
 }
