@@ -56,11 +56,8 @@ pub fn find_short(text: &[u8], may: bool) -> Magnitude
     let start = front(text, may);
     let minus = 0 < start;
     let value = number_of(&text[start..]);
-    if value == NONE {
-        return Magnitude { minus, value: NONE };
-    }
-    if text[start] == 48 {
-        if 1 < text.len() {
+    if minus {
+        if value == 0 {
             return Magnitude { minus, value: NONE };
         }
     }

@@ -30,19 +30,22 @@ faults-requires c κs = search needs
 returns : tie.Need-returns
 returns c = λ z. absurd (z refl)
 
+returns-2 : tie.Need-returns-2
+returns-2 c = λ z. absurd (z refl)
+
 sub-number-around : tie.Need-sub-number-around
 sub-number-around c = search needs
 
 number-around-requires : tie.Need-number-around-requires
-number-around-requires c κs = (c .before .faults .ensures (c .if1 .left), omega arith)
+number-around-requires c κs = (c .before .before .faults .ensures (c .before .if1 .left), omega arith)
 
-returns-2 : tie.Need-returns-2
-returns-2 c = λ z.
-    let tested = c .before .before in
+returns-3 : tie.Need-returns-3
+returns-3 c = λ z.
+    let tested = c .before .before .before in
     let loaded = tested .before .before in
     let s = loaded .before .before .before in
     seven-number (s .args .text .now) (loaded .before .load4 .result) (loaded .load42 .result) (tested .before .figures .result) _ (s .pre .0) (s .pre .1) (loaded .before .load4 .ensures .0) (loaded .before .load4 .ensures .1) (loaded .load42 .ensures .0)
-    (faultless (tested .faults .ensures (c .before .if1 .left)) (tested .before .figures .ensures)) (c .number-around .ensures)
+    (faultless (tested .faults .ensures (c .before .before .if1 .left)) (tested .before .figures .ensures)) (c .number-around .ensures) (c .before .if2 .left)
 
 pub up-to-seven-spec : {M : Type 1} → statement M
 up-to-seven-spec =
@@ -56,6 +59,7 @@ up-to-seven-spec =
     figures-requires
     faults-requires
     returns
+    returns-2
     sub-number-around
     number-around-requires
-    returns-2)
+    returns-3)

@@ -31,30 +31,34 @@ faults-requires-2 c κs = search needs
 returns : tie.Need-returns
 returns c = λ z. absurd (z refl)
 
+returns-2 : tie.Need-returns-2
+returns-2 c = λ z. absurd (z refl)
+
 sub-number-before : tie.Need-sub-number-before
 sub-number-before c = search needs
 
 number-before-requires : tie.Need-number-before-requires
-number-before-requires c κs = (c .before .faults2 .ensures (or-zero (c .before .before .faults .result) (c .before .faults2 .result) (c .if1 .left) .1), omega arith)
+number-before-requires c κs = let t = c .before in (t .before .faults2 .ensures (or-zero (t .before .before .faults .result) (t .before .faults2 .result) (t .if1 .left) .1), omega arith)
 
 mul-result : tie.Need-mul-result
 mul-result c = search needs
 
 number-requires : tie.Need-number-requires
-number-requires c κs = let t = c .before in t .before .before .faults .ensures (or-zero (t .before .before .faults .result) (t .before .faults2 .result) (t .if1 .left) .0)
+number-requires c κs = let t = c .before .before in t .before .before .faults .ensures (or-zero (t .before .before .faults .result) (t .before .faults2 .result) (t .if1 .left) .0)
 
 add-result : tie.Need-add-result
 add-result c = search needs
 
-returns-2 : tie.Need-returns-2
-returns-2 c = λ z.
-    let t = c .before .before in
+returns-3 : tie.Need-returns-3
+returns-3 c = λ z.
+    let t = c .before .before .before in
     let o = or-zero (t .before .before .faults .result) (t .before .faults2 .result) (t .if1 .left) in
     let first = t .before .before .before in
     let last = first .before .before in
     let s = last .before .before .before in
     sixteen-number (s .args .text .now) (last .before .load8 .result) (last .figures .result) (first .before .load82 .result) (first .figures2 .result) _ _ (s .pre .0) (s .pre .1)
     (last .before .load8 .ensures) (faultless (t .before .before .faults .ensures (o .0)) (last .figures .ensures)) (c .number .ensures .0) (first .before .load82 .ensures) (faultless (t .before .faults2 .ensures (o .1)) (first .figures2 .ensures)) (c .before .number-before .ensures .0)
+    (c .before .before .if2 .left)
 
 pub up-to-sixteen-spec : {M : Type 1} → statement M
 up-to-sixteen-spec =
@@ -68,9 +72,10 @@ up-to-sixteen-spec =
     faults-requires
     faults-requires-2
     returns
+    returns-2
     sub-number-before
     number-before-requires
     mul-result
     number-requires
     add-result
-    returns-2)
+    returns-3)

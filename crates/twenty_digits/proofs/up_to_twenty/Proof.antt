@@ -44,26 +44,29 @@ faults-requires-3 c κs = search needs
 returns : tie.Need-returns
 returns c = λ z. absurd (z refl)
 
+returns-2 : tie.Need-returns-2
+returns-2 c = λ z. absurd (z refl)
+
 sub-number-before : tie.Need-sub-number-before
 sub-number-before c = search needs
 
 number-before-requires : tie.Need-number-before-requires
-number-before-requires c κs = (c .before .faults3 .ensures (or-zero (c .before .before .faults2 .result) (c .before .faults3 .result) (or-zero (c .before .before .before .faults .result) (bitOr (c .before .before .faults2 .result) (c .before .faults3 .result)) (c .if1 .left) .1) .1), omega arith)
+number-before-requires c κs = let t = c .before in (t .before .faults3 .ensures (or-zero (t .before .before .faults2 .result) (t .before .faults3 .result) (or-zero (t .before .before .before .faults .result) (bitOr (t .before .before .faults2 .result) (t .before .faults3 .result)) (t .if1 .left) .1) .1), omega arith)
 
-returns-2 : tie.Need-returns-2
-returns-2 c = λ z. absurd (z refl)
+returns-3 : tie.Need-returns-3
+returns-3 c = λ z. absurd (z refl)
 
 mul-result : tie.Need-mul-result
 mul-result c = search needs
 
 number-requires : tie.Need-number-requires
-number-requires c κs = let t = c .before .before in t .before .before .faults2 .ensures (or-zero (t .before .before .faults2 .result) (t .before .faults3 .result) (or-zero (t .before .before .before .faults .result) (bitOr (t .before .before .faults2 .result) (t .before .faults3 .result)) (t .if1 .left) .1) .0)
+number-requires c κs = let t = c .before .before .before in t .before .before .faults2 .ensures (or-zero (t .before .before .faults2 .result) (t .before .faults3 .result) (or-zero (t .before .before .before .faults .result) (bitOr (t .before .before .faults2 .result) (t .before .faults3 .result)) (t .if1 .left) .1) .0)
 
 mul-result-2 : tie.Need-mul-result-2
 mul-result-2 c = search needs
 
 number-requires-2 : tie.Need-number-requires-2
-number-requires-2 c κs = let t = c .before .before .before in t .before .before .before .faults .ensures (or-zero (t .before .before .before .faults .result) (bitOr (t .before .before .faults2 .result) (t .before .faults3 .result)) (t .if1 .left) .0)
+number-requires-2 c κs = let t = c .before .before .before .before in t .before .before .before .faults .ensures (or-zero (t .before .before .before .faults .result) (bitOr (t .before .before .faults2 .result) (t .before .faults3 .result)) (t .if1 .left) .0)
 
 add-result : tie.Need-add-result
 add-result c = search needs
@@ -71,10 +74,10 @@ add-result c = search needs
 add-result-2 : tie.Need-add-result-2
 add-result-2 c = search needs
 
-returns-3 : tie.Need-returns-3
-returns-3 c = λ z.
+returns-4 : tie.Need-returns-4
+returns-4 c = λ z.
     let top = c .before .before .before in
-    let t = top .before in
+    let t = top .before .before in
     let o = or-zero (t .before .before .before .faults .result) (bitOr (t .before .before .faults2 .result) (t .before .faults3 .result)) (t .if1 .left) in
     let p = or-zero (t .before .before .faults2 .result) (t .before .faults3 .result) (o .1) in
     let first = t .before .before .before .before in
@@ -84,7 +87,7 @@ returns-3 c = λ z.
     twenty-number (s .args .text .now) (last .before .load8 .result) (last .figures .result) (next .before .load82 .result) (next .figures2 .result) (first .before .load83 .result) (first .figures3 .result) _ _ _ (s .pre .0) (s .pre .1)
     (last .before .load8 .ensures) (faultless (t .before .before .before .faults .ensures (o .0)) (last .figures .ensures)) (c .number2 .ensures .0)
     (next .before .load82 .ensures) (faultless (t .before .before .faults2 .ensures (p .0)) (next .figures2 .ensures)) (c .before .number .ensures .0)
-    (first .before .load83 .ensures) (faultless (t .before .faults3 .ensures (p .1)) (first .figures3 .ensures)) (top .number-before .ensures .0)
+    (first .before .load83 .ensures) (faultless (t .before .faults3 .ensures (p .1)) (first .figures3 .ensures)) (top .number-before .ensures .0) (top .before .if2 .left)
 
 pub up-to-twenty-spec : {M : Type 1} → statement M
 up-to-twenty-spec =
@@ -102,13 +105,14 @@ up-to-twenty-spec =
     faults-requires-2
     faults-requires-3
     returns
+    returns-2
     sub-number-before
     number-before-requires
-    returns-2
+    returns-3
     mul-result
     number-requires
     mul-result-2
     number-requires-2
     add-result
     add-result-2
-    returns-3)
+    returns-4)
