@@ -160,3 +160,10 @@ front-inside {may} {t} {r} F h = go (F .minus) (F .size)
     go : (m : Bool) → r ≡ length (sign m) → r ≤ length t
     go true e = omega arith
     go false e = omega arith
+
+pub front-allowed : {may : Bool} {t : List ℕ} {r : ℕ} → Front may t r → ltb 0 r ≡ true → may ≡ true
+front-allowed {may} {t} {r} F h = go (F .minus) (F .size) (F .allowed)
+  where
+    go : (m : Bool) → r ≡ length (sign m) → (m ≡ true → may ≡ true) → may ≡ true
+    go true e f = f refl
+    go false e f = absurd (omega (arith, ltb-true 0 r h))

@@ -55,12 +55,12 @@ pub at-code : (sgn : Bool) (bits : ℕ) (t : List ℕ) (r : Outcome) (k code : �
 at-code sgn bits t r k code e j = subst (λ (i : ℕ). Judges (form sgn bits i) sgn bits t r) (sym e) j
 
 -- the value of a decimal text is the answer to reading it
-pub short-answer : (sgn : Bool) (bits : ℕ) (t : List ℕ) {m : Bool} {v x : ℕ} {r : Outcome} → known bits ≡ true → 0 < length t → IsNumber sgn lower 10 t m v false → r ≡ ofValue sgn bits (whole m v) → r ≡ outcome.Done x
+pub short-answer : (sgn : Bool) (bits : ℕ) (t : List ℕ) {m : Bool} {v x : ℕ} → known bits ≡ true → 0 < length t → IsNumber sgn lower 10 t m v false → outcome.Done x ≡ ofValue sgn bits (whole m v)
     → Answers sgn bits 0 t (outcome.Done x)
 unfolding form
-short-answer sgn bits t {x = x} k s N e d =
+short-answer sgn bits t {x = x} k s N e =
     let b = known-bits bits k in
-    passed sgn bits 0 t (outcome.Done x) k (lit≤ tt) s (decimal-held sgn bits t (b .0) (b .1) N refl (sym d ∙ e))
+    passed sgn bits 0 t (outcome.Done x) k (lit≤ tt) s (decimal-held sgn bits t (b .0) (b .1) N refl e)
 
 -- ---- one outcome keeps the promise
 

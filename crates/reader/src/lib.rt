@@ -5,7 +5,8 @@ ghost use mathlib.Core.Path.{_≡_};
 ghost use Prim.Native.Nat.{_-_, _/_, _^_, _≤_, _<_};
 ghost use lib.ListN.{length};
 ghost use Rattle.radix.specs.Radix.{digitByte};
-ghost use Rattle.reading.specs.Formats.{decimalForm, radixForm, exponentForm, form};
+ghost use Rattle.reading.specs.Formats.{whole, decimalForm, radixForm, exponentForm, form};
+ghost use Rattle.outcomes.specs.Outcomes.{ofValue};
 ghost use Rattle.outcomes.specs.declared.Outcome.the-variants.{Done};
 ghost use Rattle.reader.specs.Answers.{Answers, Judges, Told};
 use digit_runs::TENTH;
@@ -126,6 +127,22 @@ fn value_only(outcome: Outcome) -> Quick
     }
 }
 
+// The value of a magnitude, where the type has it. No text of 0 has a minus.
+fn of_short(signed: bool, bits: u32, minus: bool, n: u64) -> Quick
+    requires { ⌜ (1 ≤ bits) × (bits ≤ 64) × ((minus ≡ true → signed ≡ true)) ⌝ }
+    ensures { λ r. ⌜ (r .done ≡ true → ((minus ≡ true → n ≡ 0 → ⊥)) × (Done (r .value) ≡ ofValue signed bits (whole minus n))) ⌝ }
+{
+    if minus {
+        if n == 0 {
+            return Quick {
+                done: false,
+                value: 0,
+            };
+        }
+    }
+    value_only(of_magnitude(signed, bits, minus, n))
+}
+
 // A decimal text of up to 20 digits at once. Where that gives no value, `read` says why. The widest types come first, where less is to be tested.
 pub fn read_short(kind: Kind, text: &[u8]) -> Quick
     ensures { λ r. ⌜ Told (kind .signed) (kind .bits) (now (text .entry)) r ⌝ }
@@ -146,10 +163,10 @@ pub fn read_short(kind: Kind, text: &[u8]) -> Quick
     }
     let bits = kind.bits;
     if bits == 64 {
-        return value_only(of_magnitude(kind.signed, 64, found.minus, value));
+        return of_short(kind.signed, 64, found.minus, value);
     }
     if kinds::is_known(bits) {
-        return value_only(of_magnitude(kind.signed, bits, found.minus, value));
+        return of_short(kind.signed, bits, found.minus, value);
     }
     Quick {
         done: false,

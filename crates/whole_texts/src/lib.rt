@@ -1,5 +1,5 @@
 // Texts of digits behind a minus or none: what each is found to be.
-ghost use mathlib.Core.Bool.{false};
+ghost use mathlib.Core.Bool.{true, false};
 ghost use mathlib.Core.Path.{_≡_};
 ghost use Prim.Native.Nat.{_-_, _/_, _^_, _≤_, _<_};
 ghost use lib.ListN.{length};
@@ -7,7 +7,6 @@ ghost use Rattle.radix.specs.Radix.{digitByte, lower};
 ghost use Rattle.whole_texts.specs.Wholes.{IsNumber, FoundOf};
 use digit_runs::front;
 use digit_runs::scan;
-use digit_words::NONE;
 use twenty_digits::number_of;
 
 // What a text of digits is found to be: of another shape from a place on, not canonical, or a number behind a minus or none.
@@ -48,18 +47,15 @@ pub struct Magnitude {
     pub value: u64,
 }
 
-// The magnitude of a canonical decimal text of 1 to 20 digits, eight digits at a time. What is wrong with any other is found byte by byte.
+// The magnitude of a decimal text of 1 to 20 digits, eight digits at a time; 0 behind a minus is left to the caller to refuse.
+// What is wrong with any other text is found byte by byte.
 pub fn find_short(text: &[u8], may: bool) -> Magnitude
     requires { ⌜ 0 < length (now text) ⌝ }
-    ensures { λ r. ⌜ ((r .value ≡ 0xffff_ffff_ffff_ffff → ⊥) → IsNumber may lower 10 (now (text .entry)) (r .minus) (r .value) false) ⌝ }
+    ensures { λ r. ⌜ ((r .minus ≡ true → may ≡ true)) × ((r .value ≡ 0xffff_ffff_ffff_ffff → ⊥) → (r .minus ≡ true → r .value ≡ 0 → ⊥) → IsNumber may lower 10 (now (text .entry)) (r .minus) (r .value) false) ⌝ }
 {
     let start = front(text, may);
-    let minus = 0 < start;
-    let value = number_of(&text[start..]);
-    if minus {
-        if value == 0 {
-            return Magnitude { minus, value: NONE };
-        }
+    Magnitude {
+        minus: 0 < start,
+        value: number_of(&text[start..]),
     }
-    Magnitude { minus, value }
 }

@@ -3,10 +3,8 @@ use mathlib.Core.Bool.{false≢true}
 use mathlib.Core.Path.{refl, sym, _∙_, subst}
 use Prim.Native.Nat.{ℕ}
 use native.Mathlib.Omega.{arith}
-use lib.Dec.{lit≤}
 use Rattle.outcomes.specs.declared.Outcome.the-variants.{Done}
 use Rattle.reader.specs.Answers.{Answers}
-use Rattle.reader.proofs.Answers.{minus-signed, minus-some}
 use Rattle.reader.proofs.Outcomes.{known-bits, short-answer}
 use borrow.Author.Needs.{needs}
 use Rattle.reader.proofs.read_short.Statement.{statement}
@@ -21,42 +19,33 @@ find-short-requires c κs = search needs
 returns-2 : tie.Need-returns-2
 returns-2 c = λ e. absurd (false≢true e)
 
-of-magnitude-requires : tie.Need-of-magnitude-requires
-of-magnitude-requires c κs =
-    let N = c .before .before .find-short .ensures (c .before .if2 .left) in
-    (lit≤ tt, lit≤ tt, minus-signed _ 64 _ (lit≤ tt) (lit≤ tt) N, minus-some _ 64 _ (lit≤ tt) (lit≤ tt) N refl)
-
-value-only-requires : tie.Need-value-only-requires
-value-only-requires c κs = search needs
+of-short-requires : tie.Need-of-short-requires
+of-short-requires c κs = search needs
 
 returns-3 : tie.Need-returns-3
 returns-3 c = λ e.
-    let w = c .before .before in
+    let w = c .before in
     let f = w .before .before in
     let a = f .before .before .before .args in
-    let S = short-answer (a .kind .signed) 64 (a .text .now) refl (omega (arith, f .before .if1 .left)) (f .find-short .ensures (w .before .if2 .left)) (c .before .of-magnitude .ensures) (c .value-only .ensures e) in
-    subst (λ (b : ℕ). Answers (a .kind .signed) b 0 (a .text .now) (Done (c .value-only .result .value))) (sym (w .if3 .taken)) S
+    let o = c .of-short .ensures e in
+    let S = short-answer (a .kind .signed) 64 (a .text .now) refl (omega (arith, f .before .if1 .left)) (f .find-short .ensures .1 (w .before .if2 .left) (o .0)) (o .1) in
+    subst (λ (b : ℕ). Answers (a .kind .signed) b 0 (a .text .now) (Done (c .of-short .result .value))) (sym (w .if3 .taken)) S
 
 is-known-requires : tie.Need-is-known-requires
 is-known-requires c κs = search needs
 
-of-magnitude-requires-2 : tie.Need-of-magnitude-requires-2
-of-magnitude-requires-2 c κs =
-    let f = c .before .before .before .before in
-    let N = f .find-short .ensures (c .before .before .before .if2 .left) in
+of-short-requires-2 : tie.Need-of-short-requires-2
+of-short-requires-2 c κs =
     let k = known-bits _ (sym (c .before .is-known .ensures) ∙ c .if4 .taken) in
-    (k .0, k .1, minus-signed _ _ _ (k .0) (k .1) N, minus-some _ _ _ (k .0) (k .1) N refl)
-
-value-only-requires-2 : tie.Need-value-only-requires-2
-value-only-requires-2 c κs = search needs
+    (k .0, k .1, c .before .before .before .before .find-short .ensures .0)
 
 returns-4 : tie.Need-returns-4
 returns-4 c = λ e.
-    let k = c .before .before in
+    let k = c .before in
     let f = k .before .before .before .before in
     let a = f .before .before .before .args in
-    short-answer (a .kind .signed) (a .kind .bits) (a .text .now) (sym (k .before .is-known .ensures) ∙ k .if4 .taken) (omega (arith, f .before .if1 .left)) (f .find-short .ensures (k .before .before .before .if2 .left))
-    (c .before .of-magnitude2 .ensures) (c .value-only2 .ensures e)
+    let o = c .of-short2 .ensures e in
+    short-answer (a .kind .signed) (a .kind .bits) (a .text .now) (sym (k .before .is-known .ensures) ∙ k .if4 .taken) (omega (arith, f .before .if1 .left)) (f .find-short .ensures .1 (k .before .before .before .if2 .left) (o .0)) (o .1)
 
 returns-5 : tie.Need-returns-5
 returns-5 c = λ e. absurd (false≢true e)
@@ -68,11 +57,9 @@ read-short-spec =
     returns
     find-short-requires
     returns-2
-    of-magnitude-requires
-    value-only-requires
+    of-short-requires
     returns-3
     is-known-requires
-    of-magnitude-requires-2
-    value-only-requires-2
+    of-short-requires-2
     returns-4
     returns-5)

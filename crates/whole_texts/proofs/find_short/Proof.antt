@@ -1,8 +1,6 @@
 -- `whole_texts::find_short` meets its contract. Assumes nothing.
-use mathlib.Core.Path.{refl}
-use native.Mathlib.Omega.{arith}
-use borrow.Author.Tests.{ltb-false}
-use Rattle.digit_runs.proofs.Runs.{front-inside}
+use borrow.Author.Tests.{lt-ltb}
+use Rattle.digit_runs.proofs.Runs.{front-inside, front-allowed}
 use Rattle.whole_texts.proofs.Decimals.{short-number}
 use borrow.Author.Needs.{needs}
 use Rattle.whole_texts.proofs.find_short.Statement.{statement}
@@ -24,21 +22,12 @@ number-of-requires : tie.Need-number-of-requires
 number-of-requires c κs = search needs
 
 returns : tie.Need-returns
-returns c = λ z. absurd (z refl)
-
-returns-2 : tie.Need-returns-2
-returns-2 c = λ z.
+returns c =
     let n = c .before .before in
-    let f = n .before .before in
-    let s = f .before .before in
-    short-number (s .args .text .now) _ _ (front-inside (f .front .ensures) (s .pre)) (n .number-of .ensures z) (s .args .may) (f .front .ensures) (λ h. c .if2 .left)
-
-returns-3 : tie.Need-returns-3
-returns-3 c = λ z.
-    let n = c .before in
-    let f = n .before .before in
-    let s = f .before .before in
-    short-number (s .args .text .now) _ _ (front-inside (f .front .ensures) (s .pre)) (n .number-of .ensures z) (s .args .may) (f .front .ensures) (λ h. absurd (omega (arith, ltb-false 0 (f .front .result) (c .if1 .left))))
+    let s = n .before .before in (
+      front-allowed (n .front .ensures),
+      λ z f. short-number (s .args .text .now) _ _ (front-inside (n .front .ensures) (s .pre)) (c .number-of .ensures z) (s .args .may) (n .front .ensures) (λ h. f (lt-ltb 0 (n .front .result) h)),
+    )
 
 pub find-short-spec : {M : Type 1} → statement M
 find-short-spec =
@@ -49,6 +38,4 @@ find-short-spec =
     part-number-of-start
     part-number-of-end
     number-of-requires
-    returns
-    returns-2
-    returns-3)
+    returns)
