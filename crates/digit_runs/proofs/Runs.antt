@@ -4,7 +4,7 @@ use mathlib.Core.Bool.{Bool, true, false, true≢false, false≢true}
 use mathlib.Core.List.{List, [], _∷_, _++_, map, append-assoc, map-append}
 use mathlib.Core.Path.{_≡_, refl, sym, ap, _∙_}
 use Prim.Native.Nat.{ℕ, _+_, _-_, _*_, _/_, _%_, _^_, _≤_, _<_}
-use native.Mathlib.Nat.{le-trans, le-add-right, le-mul-of-pos-right, mul-le-mul-right, div-add-mod', mod-lt}
+use native.Mathlib.Nat.{le-trans, le-add-right, le-mul-of-pos-right, mul-le-mul-right, div-add-mod', mod-lt, mod-eq-of-lt}
 use native.Mathlib.Numerals.{add-one}
 use native.Mathlib.Omega.{arith}
 use borrow.Author.Tests.{ltb-true, ltb-false, lt-ltb}
@@ -41,6 +41,14 @@ is-digit letter byte r low high only-low only-high = record { is = is (ltb r 10)
     only : (d : ℕ) (t : Bool) → ltb d 10 ≡ t → d < 16 → digitByte letter d ≡ byte → r ≡ d
     only d true e h g = only-low d (ltb-true d 10 e) (rw e at g)
     only d false e h g = only-high d (ltb-false d 10 e) h (rw e at g)
+
+-- a byte less another, wrapped: a small difference is the true one
+pub less : (x a byte : ℕ) → x + a < 256 → (x + a) % 2 ^ 8 ≡ byte → x + a ≡ byte
+less x a byte h e = sym (mod-eq-of-lt h) ∙ e
+
+-- and a true one that is small is no larger
+pub not-less : (x a byte k d : ℕ) → x < 256 → (x + a) % 2 ^ 8 ≡ byte → k ≤ x → d < k → a + d ≡ byte → ⊥
+not-less x a byte k d h e l g f = omega (arith, div-add-mod' (x + a) 256)
 
 module _ (α : ℕ → ℕ) (b : ℕ) (t : List ℕ) (from : ℕ) where
   pub no-digits : from ≤ length t → Digits α b t from from
