@@ -13,7 +13,7 @@ use lib.ListN.{length, getD, drop}
 use lib.Seq.{drop-cons}
 use Rattle.digits.specs.Digits.{valueFrom, Below}
 use Rattle.digits.specs.Text.{ascii}
-use Rattle.digits.proofs.Digits.{Below-snoc, valueFrom-append}
+use Rattle.digits.proofs.Digits.{Below-snoc, Below-append, valueFrom-append}
 use Rattle.radix.specs.Radix.{digitByte, lower}
 use Rattle.radix.proofs.Table.{map-same}
 use Rattle.scientific.specs.Shape.{sign}
@@ -69,11 +69,6 @@ module _ (α : ℕ → ℕ) (b : ℕ) (t : List ℕ) (from : ℕ) where
 
       text : drop from t ≡ map α (D .digits ++ (d ∷ [])) ++ drop (i + 1) t
       text = rw (map-append α (D .digits) (d ∷ []), append-assoc (map α (D .digits)) (α d ∷ []) (drop (i + 1) t), ← next) (D .text)
-
-Below-append : (b : ℕ) (xs ys : List ℕ) → Below b xs → Below b ys → Below b (xs ++ ys)
-unfolding Below
-Below-append b [] ys p q = q
-Below-append b (x ∷ xs) ys p q = (p .0, Below-append b xs ys (p .1) q)
 
 -- digits behind digits
 followed : {α : ℕ → ℕ} {b : ℕ} {t : List ℕ} {from i j : ℕ} → Digits α b t from i → Digits α b t i j → Digits α b t from j

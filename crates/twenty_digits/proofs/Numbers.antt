@@ -10,11 +10,11 @@ use lib.ListN.{length, getD, List·getD-append, take, drop, length-drop, length-
 use lib.Seq.{getD-take, take-take, take-all, take-append-le, drop-at, drop-drop, length-take-le}
 use Rattle.digits.specs.Digits.{value, valueFrom, Below, Canonical}
 use Rattle.digits.specs.Text.{ascii, text, decimal}
-use Rattle.digits.proofs.Digits.{valueFrom-append, unique}
+use Rattle.digits.proofs.Digits.{Below-append, valueFrom-append, unique}
 use Rattle.digits.proofs.Last.{valueFrom-is}
 use Rattle.words.specs.Bytes.{bytesOf}
 use Rattle.words.proofs.Joined.{bytes-cons, bytes-join}
-use Rattle.digit_words.proofs.Shifts.{Below-take, Below-append, value-zeros, low, around-below}
+use Rattle.digit_words.proofs.Shifts.{Below-take, value-zeros, low, around-below}
 
 -- l is a text of digits, and v the number that they stand for
 record Number (l : List ℕ) (v : ℕ) : Type 0 where
