@@ -3,14 +3,16 @@
 #   make all       prove what has changed, build the archive, run the example
 #   make test      all proofs from nothing, then the tests outside of them (what .ci/run calls)
 #   make outside   only the tests outside of the proofs; make oracle, make ctest: one of them
-#   make bench     times and instruction counts beside those of the peers
+#   make fuzz      calls made by coverage, for FUZZ_SECONDS (60); needs clang with libFuzzer, and is in no test run
+#   make bench     times and instruction counts beside those of the peers, sizes, and the chart docs/speed.svg
+#   make install   archive, header and pkg-config file under DESTDIR and PREFIX (/usr/local); make uninstall removes them
 #   make list      write the stored lists of Rust's answers anew
 #   make archive   target/staticlib/liblarguviet.a
 #   make clean     remove all that is made
 #
 # LARGUVIET_LIB=DIR takes the liblarguviet.a in DIR and proves and builds none; `make test` does not heed it.
 
-.PHONY: all check archive example test outside oracle ctest bench list clean
+.PHONY: all check archive example test outside oracle ctest fuzz bench install uninstall list clean
 .NOTPARALLEL:
 .DEFAULT_GOAL := all
 
@@ -19,6 +21,12 @@ LIST_LINES := 2000
 LIST_FULL := 3000
 LIST_PARTS := 1000
 LIST_SEED := 1972
+
+FUZZ_SECONDS ?= 60
+
+PREFIX ?= /usr/local
+version := $(shell sed -n 's/^version = "\(.*\)"/\1/p' rust/Cargo.toml)
+installed := lib/liblarguviet.a include/larguviet.h lib/pkgconfig/larguviet.pc
 
 export CARGO_TARGET_DIR := $(CURDIR)/build/cargo
 cargo_run := cargo run --quiet --release --offline
@@ -63,8 +71,22 @@ oracle: archive
 ctest: archive
 	@tests/run c
 
+fuzz: archive
+	@FUZZ_SECONDS=$(FUZZ_SECONDS) tests/fuzz/run
+
 bench: archive
-	@cd bench && $(cargo_run)
+	@cd bench && $(cargo_run) -- chart ../docs/speed.svg
+	@bench/sizes
+
+install: archive
+	install -d $(DESTDIR)$(PREFIX)/lib/pkgconfig $(DESTDIR)$(PREFIX)/include
+	install -m 644 $(lib)/liblarguviet.a $(DESTDIR)$(PREFIX)/lib
+	install -m 644 include/larguviet.h $(DESTDIR)$(PREFIX)/include
+	sed 's|@PREFIX@|$(PREFIX)|; s|@VERSION@|$(version)|' larguviet.pc.in >$(DESTDIR)$(PREFIX)/lib/pkgconfig/larguviet.pc
+	chmod 644 $(DESTDIR)$(PREFIX)/lib/pkgconfig/larguviet.pc
+
+uninstall:
+	rm -f $(installed:%=$(DESTDIR)$(PREFIX)/%)
 
 list: archive
 	@cd oracle && $(cargo_run) -- list $(LIST_LINES) $(LIST_FULL) $(LIST_SEED) --out ../crates/replay

@@ -1,4 +1,5 @@
-//! Compiles the peers that cargo cannot: those in C and C++, and itoa where Debian's librust-itoa-dev is installed.
+//! Compiles the peers that cargo cannot: those in C and C++, and itoa, whose source is in the folder that ITOA_SOURCE
+//! names or where Debian's librust-itoa-dev puts it. Without that there is no itoa among the peers.
 
 use std::path::{Path, PathBuf};
 use std::process::{exit, Command};
@@ -11,9 +12,11 @@ fn main() {
     println!("cargo:rerun-if-changed=build.rs");
     println!("cargo:rerun-if-changed=src/peers.cc");
     println!("cargo:rerun-if-changed={DEBIAN_CRATES}");
+    println!("cargo:rerun-if-env-changed=ITOA_SOURCE");
     println!("cargo:rustc-check-cfg=cfg(itoa)");
     compile_c(&out);
-    if let Some(folder) = debian_itoa() {
+    let itoa = env::var_os("ITOA_SOURCE").map(PathBuf::from).or_else(debian_itoa);
+    if let Some(folder) = itoa.filter(|folder| folder.join("src/lib.rs").is_file()) {
         compile_itoa(&folder, &out);
     }
 }

@@ -6,7 +6,7 @@ use std::time::Instant;
 
 const ROUNDS: usize = 60;
 
-#[derive(PartialEq)]
+#[derive(Clone, Copy, PartialEq)]
 pub enum Kind {
     /// Does nothing: what the others lose for loop and call.
     Empty,
@@ -30,8 +30,59 @@ pub struct Subject {
     pub absent: Vec<&'static str>,
 }
 
+/// What a contender took for a call.
+pub struct Row {
+    pub name: &'static str,
+    pub ours: bool,
+    pub nanoseconds: f64,
+    /// `None` without valgrind.
+    pub instructions: Option<f64>,
+}
+
+/// What came out for a subject, the fastest first.
+pub struct Measured {
+    pub subject: &'static str,
+    pub calls: usize,
+    pub rows: Vec<Row>,
+    pub absent: Vec<&'static str>,
+}
+
+impl Measured {
+    pub fn ours(&self) -> impl Iterator<Item = &Row> {
+        self.rows.iter().filter(|row| row.ours)
+    }
+
+    pub fn peers(&self) -> impl Iterator<Item = &Row> {
+        self.rows.iter().filter(|row| !row.ours)
+    }
+
+    pub fn fastest_peer(&self) -> &Row {
+        self.peers().next().expect("every subject has a peer")
+    }
+
+    pub fn fewest_instructions(&self) -> Option<f64> {
+        self.peers().filter_map(|row| row.instructions).reduce(f64::min)
+    }
+}
+
+pub fn measure(subject: &mut Subject) -> Measured {
+    let times = nanoseconds(subject);
+    let counts = instructions(subject);
+    let contenders = subject.contenders.iter().enumerate().filter(|(_, contender)| contender.kind != Kind::Empty);
+    let mut rows: Vec<Row> = contenders
+        .map(|(at, contender)| Row {
+            name: contender.name,
+            ours: contender.kind == Kind::Ours,
+            nanoseconds: times[at],
+            instructions: counts.as_ref().map(|counts| counts[at]),
+        })
+        .collect();
+    rows.sort_by(|one, other| one.nanoseconds.total_cmp(&other.nanoseconds));
+    Measured { subject: subject.name, calls: subject.calls, rows, absent: subject.absent.clone() }
+}
+
 /// Nanoseconds a call, in the order of the contenders. The rounds go round them, so that a disturbance hits all.
-pub fn nanoseconds(subject: &mut Subject) -> Vec<f64> {
+fn nanoseconds(subject: &mut Subject) -> Vec<f64> {
     let mut best = vec![f64::MAX; subject.contenders.len()];
     for _ in 0..ROUNDS {
         for (best, contender) in best.iter_mut().zip(&mut subject.contenders) {
@@ -44,7 +95,7 @@ pub fn nanoseconds(subject: &mut Subject) -> Vec<f64> {
 }
 
 /// Instructions a call, in the order of the contenders; `None` without valgrind.
-pub fn instructions(subject: &Subject) -> Option<Vec<f64>> {
+fn instructions(subject: &Subject) -> Option<Vec<f64>> {
     let counts = subject.contenders.iter().map(|contender| callgrind(subject.name, contender.name));
     Some(less_empty(subject, counts.collect::<Option<Vec<f64>>>()?))
 }

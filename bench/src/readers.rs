@@ -1,4 +1,5 @@
-//! Reading 64-bit numbers: lgv_read, Rust's parse and from_str_radix, C++ from_chars, C strtoull.
+//! Reading 64-bit numbers: lgv_read, Rust's parse and from_str_radix, C++ from_chars, C strtoull. An integer in exponent
+//! form is read by no peer; strtold comes nearest, as a long double holds 64 bits.
 
 use crate::measure::{Contender, Kind, Subject};
 use crate::values;
@@ -13,6 +14,7 @@ extern "C" {
     fn peer_from_chars_hex(text: *const u8, len: usize) -> u64;
     fn peer_strtoull(text: *const u8, len: usize) -> u64;
     fn peer_strtoull_hex(text: *const u8, len: usize) -> u64;
+    fn peer_strtold(text: *const u8, len: usize) -> u64;
 }
 
 extern "C" fn empty(_: *const u8, len: usize) -> u64 {
@@ -23,6 +25,9 @@ unsafe extern "C" fn read_decimal(text: *const u8, len: usize) -> u64 {
 }
 unsafe extern "C" fn read_hex(text: *const u8, len: usize) -> u64 {
     raw::lgv_read(64, 0, format::LOWER_HEX, text, len).value
+}
+unsafe extern "C" fn read_exponent(text: *const u8, len: usize) -> u64 {
+    raw::lgv_read(64, 0, format::LOWER_EXP, text, len).value
 }
 unsafe extern "C" fn rust_parse(text: *const u8, len: usize) -> u64 {
     str_of(text, len).parse().unwrap_or(0)
@@ -60,6 +65,15 @@ pub fn hex() -> Subject {
             ("C++ std::from_chars, 16", Kind::Peer, peer_from_chars_hex),
             ("C strtoull, 16", Kind::Peer, peer_strtoull_hex),
         ],
+    )
+}
+
+pub fn exponent() -> Subject {
+    let texts = texts(|value| format!("{value:e}"));
+    subject(
+        "read-exponent-u64",
+        texts,
+        vec![("lgv_read", Kind::Ours, read_exponent), ("C strtold", Kind::Peer, peer_strtold)],
     )
 }
 

@@ -1,34 +1,45 @@
-//! One subject as a table, the fastest first, with ratios against the fastest peer.
+//! The tables: a subject with all its contenders, the fastest first; and every entry of the archive in one.
 
-use crate::measure::{instructions, nanoseconds, Kind, Subject};
+use crate::measure::{Measured, Row};
 
-pub fn print(subject: &mut Subject) {
-    let times = nanoseconds(subject);
-    let counts = instructions(subject);
-    let fastest = least(subject, &times);
-    let fewest = counts.as_ref().map(|counts| least(subject, counts));
-
-    println!("{}: {} values, less an empty call; ratios against the best peer", subject.name, subject.calls);
+pub fn print(measured: &Measured) {
+    let fastest = measured.fastest_peer().nanoseconds;
+    println!("{}: {} values, less an empty call; ratios against the best peer", measured.subject, measured.calls);
     println!("  {:24} {:>9} {:>7} {:>13} {:>7}", "", "ns a call", "ratio", "instructions", "ratio");
-    let mut order: Vec<usize> = (0..times.len()).filter(|&at| subject.contenders[at].kind != Kind::Empty).collect();
-    order.sort_by(|&one, &other| times[one].total_cmp(&times[other]));
-    for at in order {
-        print!("  {:24} {:9.2} {:7.2}", subject.contenders[at].name, times[at], times[at] / fastest);
-        match (&counts, fewest) {
-            (Some(counts), Some(fewest)) => println!(" {:13.1} {:7.2}", counts[at], counts[at] / fewest),
-            _ => println!(" {:>13} {:>7}", "-", "-"),
-        }
+    for row in &measured.rows {
+        print!("  {:24} {:9.2} {:7.2}", row.name, row.nanoseconds, row.nanoseconds / fastest);
+        println!("{}", instructions(measured, row));
     }
-    if counts.is_none() {
-        println!("  instructions are not counted: valgrind did not run");
-    }
-    for name in &subject.absent {
+    for name in &measured.absent {
         println!("  {name} is not installed here");
     }
     println!();
 }
 
-fn least(subject: &Subject, of: &[f64]) -> f64 {
-    let peers = subject.contenders.iter().zip(of).filter(|(contender, _)| contender.kind == Kind::Peer);
-    peers.map(|(_, value)| *value).fold(f64::MAX, f64::min)
+/// Every entry on every job, each beside the fastest peer there.
+pub fn summary(all: &[Measured]) {
+    println!("every entry; ratios against the best peer of the job");
+    println!(
+        "  {:18} {:20} {:>9} {:>7} {:>13} {:>7}   fastest peer",
+        "", "", "ns a call", "ratio", "instructions", "ratio"
+    );
+    for measured in all {
+        let peer = measured.fastest_peer();
+        for row in measured.ours() {
+            print!("  {:18} {:20} {:9.2}", measured.subject, row.name, row.nanoseconds);
+            print!(" {:7.2}{}", row.nanoseconds / peer.nanoseconds, instructions(measured, row));
+            println!("   {}, {:.2} ns", peer.name, peer.nanoseconds);
+        }
+    }
+    if all.iter().any(|measured| measured.fewest_instructions().is_none()) {
+        println!("  instructions are not counted: valgrind did not run");
+    }
+    println!();
+}
+
+fn instructions(measured: &Measured, row: &Row) -> String {
+    match (row.instructions, measured.fewest_instructions()) {
+        (Some(count), Some(fewest)) => format!(" {count:13.1} {:7.2}", count / fewest),
+        _ => format!(" {:>13} {:>7}", "-", "-"),
+    }
 }

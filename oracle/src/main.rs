@@ -3,7 +3,8 @@
 //!     oracle                          run every part
 //!     oracle list N M SEED --out DIR  write N plain decimals and M calls with all fields to DIR/stdin, and Rust's
 //!                                     answers to DIR/stdout
-//!     oracle parts N SEED --out DIR   the same for N texts of parts
+//!     oracle parts N SEED --out DIR   the same for N texts of three parts
+//!     oracle part-list N SEED --out DIR   the same for N texts of 0 to 12 parts
 
 #![feature(formatting_options, int_format_into, num_internals, numfmt)]
 // The parts are internal to the library.
@@ -12,8 +13,8 @@
 mod ends;
 mod frame;
 mod list;
-mod reads;
 mod parts;
+mod reads;
 mod report;
 mod values;
 mod writes;
@@ -31,7 +32,11 @@ fn main() -> ExitCode {
             _ => usage(),
         },
         ["parts", count, seed, "--out", folder] => match (count.parse(), seed.parse()) {
-            (Ok(count), Ok(seed)) => wrote("parts", parts::write(count, seed, folder.as_ref()), folder),
+            (Ok(count), Ok(seed)) => wrote("parts", parts::three::write(count, seed, folder.as_ref()), folder),
+            _ => usage(),
+        },
+        ["part-list", count, seed, "--out", folder] => match (count.parse(), seed.parse()) {
+            (Ok(count), Ok(seed)) => wrote("part-list", parts::list::write(count, seed, folder.as_ref()), folder),
             _ => usage(),
         },
         _ => usage(),
@@ -60,6 +65,6 @@ fn wrote(name: &str, lines: std::io::Result<usize>, folder: &str) -> ExitCode {
 }
 
 fn usage() -> ExitCode {
-    eprintln!("usage: oracle | oracle list N M SEED --out DIR | oracle parts N SEED --out DIR");
+    eprintln!("usage: oracle | oracle list N M SEED --out DIR | oracle parts|part-list N SEED --out DIR");
     ExitCode::from(2)
 }

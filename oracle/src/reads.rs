@@ -1,5 +1,7 @@
-//! lgv_read: Rust's plain texts give back their numbers, and every other text is refused as the rules say.
+//! lgv_read: Rust's plain texts give back their numbers, and every other text is refused as the rules say. Every text is
+//! also given to Rust's own `parse` or `from_str_radix`.
 
+mod beside;
 mod rules;
 mod texts;
 
@@ -12,7 +14,8 @@ use larguviet::{format, raw, Answer, Kind};
 const SEED: u64 = 1972;
 /// Longer than any text that a test makes.
 const LONGEST: usize = 128;
-const RANDOM_CALLS: u64 = 10_000_000;
+const RANDOM_VALUES: u64 = 20_000_000;
+const SPOILT_TEXTS: u64 = 10_000_000;
 const BAD_BITS: [u32; 6] = [0, 7, 128, 256 + 8, 70_000, u32::MAX];
 const BAD_FORMATS: [u32; 5] = [7, 255, 256 + 3, 70_000, u32::MAX];
 
@@ -27,7 +30,7 @@ pub fn run(report: &mut Report) {
     });
     report.part("read, each type: random values' texts", |share, tally| {
         let mut reader = Reader::new(share, tally);
-        for _ in 0..RANDOM_CALLS / SHARES {
+        for _ in 0..RANDOM_VALUES / SHARES {
             let kind = Kind::ALL[reader.random.below(8) as usize];
             let value = reader.random.value(kind);
             let format = reader.random.below(7) as u32;
@@ -44,6 +47,10 @@ pub fn run(report: &mut Report) {
         let mut reader = Reader::new(share, tally);
         texts::of_bytes(share, |text| reader.in_every_way(text));
     });
+    report.part("read, each type: every text of up to three bytes that matter in some format", |share, tally| {
+        let mut reader = Reader::new(share, tally);
+        texts::of_all_that_matter(share, |text| reader.in_every_way(text));
+    });
     report.part("read, each type: every text of up to five bytes that matter", |share, tally| {
         let mut reader = Reader::new(share, tally);
         for format in 0..7 {
@@ -54,7 +61,7 @@ pub fn run(report: &mut Report) {
     });
     report.part("read, each type: random texts with a fault or two", |share, tally| {
         let mut reader = Reader::new(share, tally);
-        for _ in 0..RANDOM_CALLS / SHARES {
+        for _ in 0..SPOILT_TEXTS / SHARES {
             reader.spoilt_text();
         }
     });
@@ -68,18 +75,21 @@ pub fn run(report: &mut Report) {
             }
         }
     });
+    beside::close(report);
 }
 
 struct Reader<'a> {
     random: Random,
     frame: Frame,
     text: String,
+    beside: beside::Counts,
     tally: &'a mut Tally,
 }
 
 impl<'a> Reader<'a> {
     fn new(share: u64, tally: &'a mut Tally) -> Self {
-        Reader { random: Random::new(SEED + share), frame: Frame::new(LONGEST), text: String::new(), tally }
+        let (random, beside) = (Random::new(SEED + share), beside::Counts::default());
+        Reader { random, frame: Frame::new(LONGEST), text: String::new(), beside, tally }
     }
 
     /// The number must come back, and the judge must say so too.
@@ -129,6 +139,13 @@ impl<'a> Reader<'a> {
         self.tally.count(agrees, (text.len() as u64, format as usize), || {
             let text = text.escape_ascii();
             format!("{kind:?} \"{text}\" in format {format}: {given:?}, wanted {wanted:?}, {}", self.frame.show())
+        });
+        let agrees = self.beside.agree(kind, format, text, given);
+        self.tally.expect(agrees, (text.len() as u64, format as usize), || {
+            let text = text.escape_ascii();
+            format!(
+                "{kind:?} \"{text}\" in format {format}: {given:?}, and Rust's own reading differs in a way not listed"
+            )
         });
     }
 }

@@ -3,10 +3,10 @@
 use mathlib.Core.Path.{_≡_, refl, sym, ap, _∙_}
 use mathlib.Core.List.{List, [], _∷_, _++_, map, map-append}
 use Prim.Native.Nat.{ℕ, zero, suc, _+_, _/_, _%_, _^_, _≤_, _<_}
-use native.Mathlib.Nat.{zero-lt-suc, one-le-pow, le-trans, div-le-self, add-zero, add-suc, suc-add}
+use native.Mathlib.Nat.{zero-lt-suc, one-le-pow, le-trans, div-le-self}
 use native.Mathlib.Omega.{arith}
 use lib.Dec.{lit<}
-use lib.ListN.{length, set}
+use lib.ListN.{length}
 use lib.Seq.{sets}
 use Rattle.buffer.proofs.Left.{Left, left-room, left-store}
 use Rattle.digits.specs.Digits.{bare, digits, last}
@@ -70,8 +70,3 @@ module _ {n end : ℕ} {buf₀ : List ℕ} {remain offset : ℕ} {buf : List ℕ
         less = le-trans (div-le-self remain (10 ^ suc k)) (R .less);
         left = rw (lastText-mod ascii 10 ten (suc k) remain) (left-store (R .left) (pending n (remain / 10 ^ suc k)) (lastText ascii 10 (suc k) remain) o (pending-split k n remain (R .less) more) i);
       }
-
--- one run of stores after another
-pub sets-append : (l : List ℕ) (i : ℕ) (xs ys : List ℕ) → sets l i (xs ++ ys) ≡ sets (sets l i xs) (i + length xs) ys
-sets-append l i [] ys = rw add-zero
-sets-append l i (x ∷ xs) ys = sets-append (set l i x) (suc i) xs ys ∙ rw (suc-add, add-suc)

@@ -1,5 +1,6 @@
-// Decimal by digit pairs, right to left, and the end entries.
-// Carries over _fmt_inner and format_into of fmt/num.rs: four digits a turn, then two, then one.
+// Decimal: the plain form by digit pairs, right to left, the fast form by size class, and the end entries.
+// Carries over _fmt_inner and format_into of fmt/num.rs: four digits a turn, then two, then one. That is the plain form, which a short buffer takes;
+// the fast form has the same contract, and so the same bytes.
 ghost use mathlib.Core.Path.{_≡_};
 ghost use Prim.Native.Nat.{_+_, _-_, _<_, _≤_};
 ghost use lib.Dec.{leb};
@@ -52,12 +53,20 @@ fn fmt_inner(pairs: &[u8; 200], n: u64, buf: &mut [u8], end: usize) -> usize
     offset
 }
 
-// The decimal text of n just before the index end. The answer is where it starts.
-pub fn write_before(n: u64, buf: &mut [u8], end: usize) -> usize
+// The plain form: the decimal text of n just before the index end, two digits at a time. The answer is where it starts.
+pub fn write_pairs_before(n: u64, buf: &mut [u8], end: usize) -> usize
     requires { ⌜ (length (decimal n) ≤ end) × (end ≤ length (now buf)) ⌝ }
     ensures { λ r. ⌜ (r ≡ end - length (decimal n)) × (now (buf .exit) ≡ ended (now (buf .entry)) end (decimal n)) ⌝ }
 {
     fmt_inner(&digits::decimal_pairs(), n, buf, end)
+}
+
+// The same, eight digits at a time.
+pub fn write_before(n: u64, buf: &mut [u8], end: usize) -> usize
+    requires { ⌜ (length (decimal n) ≤ end) × (end ≤ length (now buf)) ⌝ }
+    ensures { λ r. ⌜ (r ≡ end - length (decimal n)) × (now (buf .exit) ≡ ended (now (buf .entry)) end (decimal n)) ⌝ }
+{
+    classes::write_before(n, buf, end)
 }
 
 // Whether the decimal text of n is at most room bytes long: one comparison with a power of ten, none where 20 bytes are there.
@@ -78,8 +87,11 @@ pub fn end_at_u64(value: u64, out: &mut [u8]) -> usize
     ensures { λ r. ⌜ EndPromise (decimal value) (now (out .entry)) r (now (out .exit)) ⌝ }
 {
     let end = out.len();
-    if has_room(value, end) {
+    if 20 <= end {
         return write_before(value, out, end);
+    }
+    if has_room(value, end) {
+        return write_pairs_before(value, out, end);
     }
     end
 }

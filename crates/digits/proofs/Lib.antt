@@ -2,6 +2,7 @@
 pub mod Digits
 pub mod Last
 pub mod Length
+pub mod Count
 pub mod Text
 pub mod Tables
 pub mod Examples

@@ -22,58 +22,48 @@ pub fn decimal_pairs() -> [u8; 200]
     DECIMAL_PAIRS
 }
 
-// 10 to the power of 0 to 19: each that 64 bits hold.
-const POWERS: [u64; 20] = [
-    1,
-    10,
-    100,
-    1000,
-    10000,
-    100000,
-    1000000,
-    10000000,
-    100000000,
-    1000000000,
-    10000000000,
-    100000000000,
-    1000000000000,
-    10000000000000,
-    100000000000000,
-    1000000000000000,
-    10000000000000000,
-    100000000000000000,
-    1000000000000000000,
-    10000000000000000000,
-];
-
-// 10 to the k.
+// 10 to the k: the table of powers, each that 64 bits hold. A match that lists every arm becomes a table in read-only data, where a constant array
+// would be copied to the stack at each use.
 pub fn power(k: usize) -> u64
     requires { ⌜ k < 20 ⌝ }
     ensures { λ r. ⌜ r ≡ 10 ^ k ⌝ }
 {
-    POWERS[k]
+    match k {
+        0 => 1,
+        1 => 10,
+        2 => 100,
+        3 => 1000,
+        4 => 10000,
+        5 => 100000,
+        6 => 1000000,
+        7 => 10000000,
+        8 => 100000000,
+        9 => 1000000000,
+        10 => 10000000000,
+        11 => 100000000000,
+        12 => 1000000000000,
+        13 => 10000000000000,
+        14 => 100000000000000,
+        15 => 1000000000000000,
+        16 => 10000000000000000,
+        17 => 100000000000000000,
+        18 => 1000000000000000000,
+        19 => 10000000000000000000,
+        _ => 0,
+    }
 }
 
-// How many digits n has in decimal, by dividing: four at a time.
+// How many digits n has in decimal, with no division: the bits of n tell it but for one, and a comparison with a power of ten tells that one.
+// 1233 / 4096 is a little more than the digits that a bit is worth. n | 1 has as many digits as n, and a bit where n has none.
 pub fn digit_count(n: u64) -> usize
     ensures { λ r. ⌜ r ≡ length (decimal n) ⌝ }
 {
-    let mut rest = n;
-    let mut count: usize = 1;
-    while 9999 < rest {
-        rest = rest / 10000;
-        count += 4;
+    let x = n / 2 * 2 + 1;
+    let t = (((64 - u64::leading_zeros(x)) * 1233) >> 12) as usize;
+    if x < power(t) {
+        return t;
     }
-    if rest < 10 {
-        return count;
-    }
-    if rest < 100 {
-        return count + 1;
-    }
-    if rest < 1000 {
-        return count + 2;
-    }
-    count + 3
+    t + 1
 }
 
 // The bits that the pattern x needs: 64 less its leading zeros, but 1 for zero. So many binary digits has it.

@@ -4,21 +4,23 @@ use mathlib.Core.List.{List, _∷_, _++_, append-assoc, append-nil}
 use mathlib.Core.Option.{Option}
 use mathlib.Core.Path.{_≡_, refl, sym, ap, _∙_}
 use Prim.Native.Nat.{ℕ, zero, suc, _+_, _≤_}
+use native.Mathlib.Nat.{zero-add}
 use native.Mathlib.Omega.{arith}
 use borrow.Author.Tests.{le-ltb}
-use lib.ListN.{length, take, drop, replicate, length-append}
+use lib.ListN.{length, take, drop, replicate, length-append, length-replicate}
 use lib.Seq.{take-at, drop-at}
 use Rattle.buffer.specs.AtEnd.{ended, begun}
-use Rattle.buffer.proofs.AtEnd.{begun-behind}
+use Rattle.buffer.proofs.AtEnd.{begun-behind, ended-whole, ended-on}
 use Rattle.digits.specs.Text.{ascii, lastText, decimal}
-use Rattle.digits.proofs.Text.{length-lastText, text-most}
+use Rattle.digits.proofs.Text.{length-lastText, text-most, text-some}
 use Rattle.parts.specs.Parts.{signText, partText, partsText, textOf, leavesSource, Inside, partLength, partsLength, trueLength, partsOf, zeroPart, copyPart}
 use Rattle.parts.specs.declared.Formatted.{Formatted}
 use Rattle.parts.proofs.Text.{length-text}
+use Rattle.scientific.specs.Sci.{Sci, sci}
 use Rattle.scientific.specs.Layout.{point, layout, expText}
 use Rattle.scientific.proofs.Steps.{layout-zeros}
 use Rattle.scientific.proofs.Tens as T
-use Rattle.exponent.specs.Coefficient.{Scales, coefText}
+use Rattle.exponent.specs.Coefficient.{Scales, Sized, coefText, scaledText}
 use Rattle.exponent.specs.Form.{Texts}
 use Rattle.exponent.specs.declared.Scaled.{Scaled}
 
@@ -33,9 +35,18 @@ coef-length m f z =
     some zero = omega arith
     some (suc k) = omega arith
 
+pub coef-least : (m f z : ℕ) → f + 1 ≤ length (coefText m f z)
+unfolding coefText
+coef-least m f z =
+    let k = length-lastText ascii 10 f m in
+    omega (arith, length-append (point (f + z)) (lastText ascii 10 f m))
+
 -- the letter and two digits
-exp-length : (letter k : ℕ) → k ≤ 99 → length (letter ∷ decimal k) ≤ 3
-exp-length letter k h = let l = text-most ascii 10 T.ten 2 k (omega arith) (omega arith) in omega arith
+pub exp-most : (letter k : ℕ) → k ≤ 99 → length (letter ∷ decimal k) ≤ 3
+exp-most letter k h = let l = text-most ascii 10 T.ten 2 k (omega arith) (omega arith) in omega arith
+
+pub exp-least : (letter k : ℕ) → 2 ≤ length (letter ∷ decimal k)
+exp-least letter k = let l = text-some ascii 10 T.ten k in omega arith
 
 -- a run of the source, z zeros and the run behind it
 abbrev pub three : ℕ → ℕ → ℕ → Formatted
@@ -63,35 +74,62 @@ three-length a z b = omega arith
 
 -- ---- the text of n
 
-module _ (letter n : ℕ) (p : Option ℕ) (s : Scaled) (S : Scales p n s) where
+module _ (letter : ℕ) (s : Scaled) where
   abbrev coef : List ℕ
   coef = coefText (s .coef) (s .«coef_prec») (s .«more_prec»)
 
   abbrev expo : List ℕ
   expo = letter ∷ decimal (s .exp)
 
-  text-is : coef ++ (replicate (s .«more_prec») 48 ++ expo) ≡ expText letter p n
-  unfolding expText coefText
-  text-is = sym (ap (layout letter) (S .is) ∙ layout-zeros letter (s .coef) (s .«coef_prec») (s .«more_prec») (s .exp))
+  pub scaled-length : length (scaledText letter s) ≡ length coef + (s .«more_prec» + length expo)
+  unfolding scaledText
+  scaled-length =
+      let z : List ℕ = replicate (s .«more_prec») 48 in
+      omega (arith, length-append coef (z ++ expo), length-append z expo, length-replicate {A = ℕ} (s .«more_prec») 48)
 
-  -- the coefficient is written at the start of the bytes l, and the exponent behind it
-  pub texts : (l mid src : List ℕ) (a b : ℕ) → a ≡ length coef → b ≡ length expo → mid ≡ begun l coef → src ≡ ended mid (a + b) expo → length src ≡ 24 → s .exp ≤ 99
-      → Texts letter p n src (three a (s .«more_prec») b)
-  unfolding begun
-  texts l mid src a b i j e₁ e₂ k h =
-      let r : List ℕ = drop (length (coef ++ expo)) l in
-      let e : src ≡ (coef ++ expo) ++ r = e₂ ∙ rw (e₁, i, j) (begun-behind l coef expo) in
-      let I : Inside (length src) (partsOf (three a (s .«more_prec») b)) = rw (e, i, j) (three-inside coef expo r (s .«more_prec»)) in
-      let X : textOf 0 src (partsOf (three a (s .«more_prec») b)) ≡ expText letter p n = rw (e, i, j) (three-text coef expo r (s .«more_prec») ∙ text-is) in
-      let L = sym (length-text 0 src (partsOf (three a (s .«more_prec») b)) I) ∙ ap length X in
-      let t = coef-length (s .coef) (s .«coef_prec») (s .«more_prec») in
-      let u = exp-length letter (s .exp) h in
-      record {
-        expo = rw (S .is) h;
-        source = k;
-        sign = refl;
-        inside = I;
-        text = X;
-        size = L;
-        few = rw (← L, three-length a (s .«more_prec») b) (omega (arith, S .few, S .zeros));
-      }
+  -- written from its end on, straight into l: the exponent, the zeros, the coefficient
+  pub written : (l m₁ m₂ m₃ : List ℕ) (at b x c : ℕ) → x ≡ length expo → c ≡ length coef → b ≡ at + c + s .«more_prec» → at + length (scaledText letter s) ≤ length l
+      → m₁ ≡ ended l (b + x) expo → m₂ ≡ ended m₁ b (replicate (s .«more_prec») 48) → m₃ ≡ ended m₂ (at + c) coef
+      → m₃ ≡ ended l (at + length (scaledText letter s)) (scaledText letter s)
+  unfolding scaledText
+  written l m₁ m₂ m₃ at b x c i j k h e₁ e₂ e₃ =
+      let z : List ℕ = replicate (s .«more_prec») 48 in
+      let n = scaled-length in
+      let nz = length-replicate {A = ℕ} (s .«more_prec») 48 in
+      let ne = length-append z expo in
+      let e : b + x ≡ at + length (scaledText letter s) = omega arith in
+      let s₂ = ended-on l (b + x) expo z e₁ e₂ (omega arith) (omega arith) (omega arith) in
+      rw e at (ended-on l (b + x) (z ++ expo) coef s₂ e₃ (omega arith) (omega arith) (omega arith))
+
+  module _ (n : ℕ) (p : Option ℕ) (S : Scales p n s) where
+    pub expo-is : sci p n .expo ≡ s .exp
+    expo-is = ap (λ (x : Sci). x .expo) (S .is)
+
+    pub sized : s .exp ≤ 99 → Sized s
+    sized h = record { lead = S .lead; few = S .few; zeros = S .zeros; high = omega arith }
+
+    pub text-is : scaledText letter s ≡ expText letter p n
+    unfolding scaledText expText coefText
+    text-is = sym (ap (layout letter) (S .is) ∙ layout-zeros letter (s .coef) (s .«coef_prec») (s .«more_prec») (s .exp))
+
+    -- the coefficient is written at the start of the bytes l, and the exponent behind it
+    pub texts : (l mid src : List ℕ) (a b : ℕ) → a ≡ length coef → b ≡ length expo → mid ≡ ended l (0 + a) coef → src ≡ ended mid (a + b) expo → length src ≡ 24 → s .exp ≤ 99
+        → Texts letter p n src (three a (s .«more_prec») b)
+    unfolding begun scaledText
+    texts l mid src a b i j e₁ e₂ k h =
+        let r : List ℕ = drop (length (coef ++ expo)) l in
+        let e : src ≡ (coef ++ expo) ++ r = e₂ ∙ rw (e₁, zero-add a, i, j, ended-whole l coef) (begun-behind l coef expo) in
+        let I : Inside (length src) (partsOf (three a (s .«more_prec») b)) = rw (e, i, j) (three-inside coef expo r (s .«more_prec»)) in
+        let X : textOf 0 src (partsOf (three a (s .«more_prec») b)) ≡ expText letter p n = rw (e, i, j) (three-text coef expo r (s .«more_prec») ∙ text-is) in
+        let L = sym (length-text 0 src (partsOf (three a (s .«more_prec») b)) I) ∙ ap length X in
+        let t = coef-length (s .coef) (s .«coef_prec») (s .«more_prec») in
+        let u = exp-most letter (s .exp) h in
+        record {
+          expo = rw (S .is) h;
+          source = k;
+          sign = refl;
+          inside = I;
+          text = X;
+          size = L;
+          few = rw (← L, three-length a (s .«more_prec») b) (omega (arith, S .few, S .zeros));
+        }

@@ -3,12 +3,12 @@
 ghost use mathlib.Core.Option.{none, some};
 ghost use mathlib.Core.Path.{_≡_};
 ghost use mathlib.Core.List.{_∷_};
-ghost use Prim.Native.Nat.{_+_, _<_, _≤_};
+ghost use Prim.Native.Nat.{ℕ, _+_, _/_, _<_, _≤_};
 ghost use lib.ListN.{length};
-ghost use Rattle.buffer.specs.AtEnd.{ended, begun};
+ghost use Rattle.buffer.specs.AtEnd.{ended};
 ghost use Rattle.digits.specs.Text.{decimal};
 ghost use Rattle.scientific.specs.Sci.{exponentOf, up, rounded};
-ghost use Rattle.exponent.specs.Coefficient.{precisionOf, Scales, coefText};
+ghost use Rattle.exponent.specs.Coefficient.{precisionOf, Scales, Sized, coefText, scaledText};
 ghost use Rattle.exponent.specs.Form.{Answers};
 use parts::Formatted;
 use parts::Part;
@@ -26,11 +26,11 @@ pub enum Shown {
 }
 
 // The digits of coef, coef_prec of them behind the point, and more_prec zeros behind those; the exponent.
-struct Scaled {
-    coef: u64,
-    coef_prec: usize,
-    more_prec: usize,
-    exp: usize,
+pub struct Scaled {
+    pub coef: u64,
+    pub coef_prec: usize,
+    pub more_prec: usize,
+    pub exp: usize,
 }
 
 // What is added to the quotient floor, for the rest over and half of the scale: half rounds to even.
@@ -88,12 +88,20 @@ fn fixed(n: u64, exp: usize, fmt_prec: usize) -> Scaled
     }
 }
 
-// Without precision: any and all trailing zeros are dropped, four at a time, then two, then one.
+// Without precision: any and all trailing zeros are dropped, four at a time, then two, then one. Most numbers have none.
 fn short(n: u64, exp: usize) -> Scaled
     requires { ⌜ exp ≡ exponentOf n ⌝ }
     ensures { λ r. ⌜ Scales none n r ⌝ }
 {
     if n < 10 {
+        return Scaled {
+            coef: n,
+            coef_prec: exp,
+            more_prec: 0,
+            exp,
+        };
+    }
+    if n % 10 != 0 {
         return Scaled {
             coef: n,
             coef_prec: exp,
@@ -124,7 +132,7 @@ fn short(n: u64, exp: usize) -> Scaled
 }
 
 // The coefficient and the exponent of n.
-fn scale(n: u64, precision: Precision) -> Scaled
+pub fn scale(n: u64, precision: Precision) -> Scaled
     ensures { λ r. ⌜ Scales (precisionOf precision) n r ⌝ }
 {
     let exp = digits::digit_count(n) - 1;
@@ -134,35 +142,89 @@ fn scale(n: u64, precision: Precision) -> Scaled
     }
 }
 
-// The lead digit, the point and the fraction at the start of buf: the digits one place to the right, and the lead moved in front of the point. Their length.
-fn encode_coef(coef: u64, coef_prec: usize, more_prec: usize, buf: &mut [u8]) -> usize
-    requires { ⌜ (exponentOf coef ≡ «coef_prec») × («more_prec» ≤ 65535) × («coef_prec» + 2 ≤ length (now buf)) ⌝ }
-    ensures { λ r. ⌜ (r ≡ length (coefText coef «coef_prec» «more_prec»)) × (now (buf .exit) ≡ begun (now (buf .entry)) (coefText coef «coef_prec» «more_prec»)) ⌝ }
+// How long the lead digit, the point and the fraction are, without the zeros that are to follow.
+fn coef_length(coef_prec: usize, more_prec: usize) -> usize
+    requires { ⌜ («coef_prec» ≤ 19) × («more_prec» ≤ 65535) ⌝ }
+    ensures { λ r. ⌜ (r ≤ 21) × ((m : ℕ) → r ≡ length (coefText m «coef_prec» «more_prec»)) ⌝ }
 {
     if coef_prec + more_prec == 0 {
-        buf[0] = 48 + coef as u8;
+        return 1;
+    }
+    coef_prec + 2
+}
+
+// The lead digit, the point and the fraction from the index at on: the digits one place to the right, and the lead moved in front of the point. Their length.
+fn encode_coef(coef: u64, coef_prec: usize, more_prec: usize, buf: &mut [u8], at: usize) -> usize
+    requires { ⌜ (exponentOf coef ≡ «coef_prec») × («more_prec» ≤ 65535) × (at + («coef_prec» + 2) ≤ length (now buf)) ⌝ }
+    ensures { λ r. ⌜ (r ≡ length (coefText coef «coef_prec» «more_prec»)) × (now (buf .exit) ≡ ended (now (buf .entry)) (at + r) (coefText coef «coef_prec» «more_prec»)) ⌝ }
+{
+    if coef_prec + more_prec == 0 {
+        buf[at] = 48 + coef as u8;
         return 1;
     }
     let coef_len = coef_prec + 2;
-    decimal::write_before(coef, buf, coef_len);
-    buf[0] = buf[1];
-    buf[1] = b'.';
+    decimal::write_before(coef, buf, at + coef_len);
+    let lead = buf[at + 1];
+    buf[at + 1] = b'.';
+    buf[at] = lead;
     coef_len
 }
 
-// The letter and the exponent's one or two digits from the index at on. Their length.
-fn encode_exp(letter: u8, exp: usize, buf: &mut [u8], at: usize) -> usize
-    requires { ⌜ (exp < 100) × (at + 3 ≤ length (now buf)) ⌝ }
-    ensures { λ r. ⌜ (r ≡ length (letter ∷ decimal exp)) × (now (buf .exit) ≡ ended (now (buf .entry)) (at + r) (letter ∷ decimal exp)) ⌝ }
+// How long the letter and the exponent's one or two digits are.
+fn exp_length(exp: usize) -> usize
+    requires { ⌜ exp < 100 ⌝ }
+    ensures { λ r. ⌜ (r ≤ 3) × ((letter : ℕ) → r ≡ length (letter ∷ decimal exp)) ⌝ }
 {
-    buf[at] = letter;
     if exp < 10 {
-        buf[at + 1] = 48 + exp as u8;
         return 2;
     }
-    buf[at + 1] = 48 + (exp / 10) as u8;
-    buf[at + 2] = 48 + (exp % 10) as u8;
     3
+}
+
+// The exponent's first digit.
+fn first_digit(exp: usize) -> u8
+    requires { ⌜ exp < 100 ⌝ }
+    ensures { λ r. ⌜ (exp < 10 → r ≡ 48 + exp) × (10 ≤ exp → r ≡ 48 + exp / 10) ⌝ }
+{
+    if exp < 10 {
+        return 48 + exp as u8;
+    }
+    48 + (exp / 10) as u8
+}
+
+// The letter and the exponent's one or two digits from the index at on, with no branch: the last of one is also the first. Their length.
+fn encode_exp(letter: u8, exp: usize, buf: &mut [u8], at: usize) -> usize
+    requires { ⌜ (exp < 100) × (at + length (letter ∷ decimal exp) ≤ length (now buf)) ⌝ }
+    ensures { λ r. ⌜ (r ≡ length (letter ∷ decimal exp)) × (now (buf .exit) ≡ ended (now (buf .entry)) (at + r) (letter ∷ decimal exp)) ⌝ }
+{
+    let len = exp_length(exp);
+    buf[at] = letter;
+    buf[at + 1] = first_digit(exp);
+    buf[at + len - 1] = 48 + (exp % 10) as u8;
+    len
+}
+
+impl Scaled {
+    // How long the text is.
+    pub fn size(self) -> usize
+        requires { ⌜ Sized self ⌝ }
+        ensures { λ r. ⌜ (r < 131072) × ((letter : ℕ) → r ≡ length (scaledText letter self)) ⌝ }
+    {
+        let coef_len = coef_length(self.coef_prec, self.more_prec);
+        coef_len + (self.more_prec + exp_length(self.exp))
+    }
+
+    // The text from the index at on, with no scratch and no copy: for a caller who has found that it has room.
+    pub fn write_at(self, letter: u8, buf: &mut [u8], at: usize)
+        requires { ⌜ Sized self × (at + length (scaledText letter self) ≤ length (now buf)) ⌝ }
+        ensures { λ _. ⌜ now (buf .exit) ≡ ended (now (buf .entry)) (at + length (scaledText letter self)) (scaledText letter self) ⌝ }
+    {
+        let coef_len = coef_length(self.coef_prec, self.more_prec);
+        let behind = at + coef_len + self.more_prec;
+        encode_exp(letter, self.exp, buf, behind);
+        buffer::fill(b'0', self.more_prec, buf, behind);
+        encode_coef(self.coef, self.coef_prec, self.more_prec, buf, at);
+    }
 }
 
 // The exponent form of the magnitude n: in scratch the coefficient, and right behind it the letter and the exponent; as parts, with zeros between the two.
@@ -174,7 +236,7 @@ pub fn formatted(n: u64, letter: u8, precision: Precision, scratch: &mut [u8; 24
     if 99 < scaled.exp {
         return Shown::ExponentRefused;
     }
-    let coef_len = encode_coef(scaled.coef, scaled.coef_prec, scaled.more_prec, scratch);
+    let coef_len = encode_coef(scaled.coef, scaled.coef_prec, scaled.more_prec, scratch, 0);
     let exp_len = encode_exp(letter, scaled.exp, scratch, coef_len);
     Shown::Parts(Formatted {
         sign: 0,

@@ -6,8 +6,8 @@ use mathlib.Core.Path.{_≡_, sym, ap, _∙_}
 use Prim.Native.Nat.{ℕ}
 use Rattle.outcomes.specs.Outcomes.{numberOf, valueOf}
 use Rattle.reader.proofs.Outcomes as Outcomes
-use Rattle.writer.specs.Promise.{number, value, Writes}
-use Rattle.writer.specs.declared.Written.{Written}
+use Rattle.writing.specs.Promise.{number, value, Writes}
+use Rattle.writing.specs.declared.Written.{Written}
 use Rattle.larguviet.specs.Edge.{Answers, Reads}
 
 pub edged : {t : List ℕ} {a : Written} {l : List ℕ} {r : Written} {l′ : List ℕ} {n v : ℕ} → Writes t a l r l′ → n ≡ number r → v ≡ value r → Answers t a l n v l′

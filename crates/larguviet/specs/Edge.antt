@@ -9,9 +9,9 @@ use Rattle.exponent.specs.declared.Precision.the-variants.{None, Digits}
 use Rattle.reader.specs.Answers as reader
 use Rattle.outcomes.specs.Outcomes.{numberOf, valueOf}
 use Rattle.outcomes.specs.declared.Outcome.{Outcome}
-use Rattle.writer.specs.Promise.{number, value, after}
-use Rattle.writer.specs.declared.Options.{Options}
-use Rattle.writer.specs.declared.Written.{Written}
+use Rattle.writing.specs.Promise.{number, value, after}
+use Rattle.writing.specs.declared.Options.{Options}
+use Rattle.writing.specs.declared.Written.{Written}
 
 abbrev pub set : ℕ → Bool
 set n = not (eqb n 0)

@@ -4,13 +4,13 @@ ghost use lib.ListN.{length};
 ghost use Rattle.digits.specs.Text.{decimal, signed};
 ghost use Rattle.decimal.specs.Ends.{EndPromise};
 ghost use Rattle.kinds.specs.Kinds.{meaning};
-ghost use Rattle.writer.specs.Text.{textOf};
-ghost use Rattle.writer.specs.Promise.{answer, house};
+ghost use Rattle.writing.specs.Text.{textOf};
+ghost use Rattle.writing.specs.Promise.{answer, house};
 ghost use Rattle.larguviet.specs.Edge.{set, precisionFrom, optionsFrom, Answers, Reads};
 use exponent::Precision;
 use kinds::Kind;
-use writer::Options;
-use writer::Written;
+use writing::Options;
+use writing::Written;
 
 // Document 01's number of the answer, and what it returns.
 #[repr(C)]

@@ -14,28 +14,28 @@
 ghost use mathlib.Core.Path.{_≡_};
 ghost use lib.ListN.{length};
 
+mod calls;
 mod field;
 mod formatted;
 mod narrow;
 mod output;
 mod plain;
-mod writing;
 
 fn answer(line: &[u8], out: &mut [u8; 4096], waiting: usize) -> usize {
     if line.len() < 2 {
         return output::put(out, waiting, b'?');
     }
     if line[1] != b' ' {
-        return writing::answer(line, out, waiting);
+        return calls::answer(line, out, waiting);
     }
     match line[0] {
         b'u' => plain::answer(line, false, out, waiting),
         b'i' => plain::answer(line, true, out, waiting),
-        b't' => writing::answer_typed(line, out, waiting),
-        b's' => writing::answer_short(line, out, waiting),
+        b't' => calls::answer_typed(line, out, waiting),
+        b's' => calls::answer_short(line, out, waiting),
         b'p' => formatted::answer(line, out, waiting),
         b'#' => output::put_all(out, waiting, line),
-        _ => writing::answer(line, out, waiting),
+        _ => calls::answer(line, out, waiting),
     }
 }
 

@@ -1,14 +1,11 @@
 -- The text of a pattern in binary, octal, lower and upper hex, by document 01's format codes 1 to 4, and its length ("Lengths"). Over all naturals.
-use mathlib.Core.Bool.{Bool, cond}
+use mathlib.Core.Bool.{cond}
 use mathlib.Core.List.{List}
-use Prim.Native.Nat.{ℕ, _+_, _-_, _/_, _%_}
-use lib.Dec.{eqb, ltb}
+use Prim.Native.Nat.{ℕ, _+_, _/_, _%_}
+use lib.Dec.{eqb}
 use lib.ListN.{getD}
 use Rattle.digits.specs.Text.{text}
-
--- The byte of a digit: from `0` (48) on, and for 10 and more from the letter on.
-abbrev pub digitByte : ℕ → ℕ → ℕ
-digitByte letter d = cond (ltb d 10) (48 + d) (letter + (d - 10))
+pub use Rattle.lanes.specs.Letters.{digitByte}
 
 -- Small letters, from `a` on, and capital ones, from `A` on.
 abbrev pub lower : ℕ → ℕ
@@ -16,9 +13,6 @@ lower d = digitByte 97 d
 
 abbrev pub upper : ℕ → ℕ
 upper d = digitByte 65 d
-
-abbrev pub alphabet : Bool → ℕ → ℕ
-alphabet capital d = cond capital (upper d) (lower d)
 
 -- The alphabet that a table of the digits in order gives.
 abbrev pub tableByte : List ℕ → ℕ → ℕ

@@ -1,5 +1,6 @@
-// Binary, octal, lower and upper hex, right to left, and their lengths before a byte is written.
-// Carries over radix_integer! of fmt/num.rs: one writer over the bits of a digit and the table of digits, two digits a turn.
+// Binary, octal, lower and upper hex, and their lengths before a byte is written.
+// Carries over radix_integer! of fmt/num.rs: one writer over the bits of a digit and the table of digits, right to left, two digits a turn.
+// Hex, and binary of more than four digits, have faster ones of their own: the crates hex and binary.
 ghost use mathlib.Core.Path.{_≡_};
 ghost use Prim.Native.Nat.{_+_, _-_, _%_, _^_, _<_, _≤_};
 ghost use lib.ListN.{length};
@@ -8,21 +9,16 @@ ghost use Rattle.buffer.specs.AtEnd.{ended};
 ghost use Rattle.digits.specs.Digits.{digits};
 ghost use Rattle.digits.specs.Tables.{tabulate};
 ghost use Rattle.digits.specs.Text.{text, lastText};
-ghost use Rattle.radix.specs.Radix.{lower, upper, alphabet, tableByte, radix};
+ghost use Rattle.radix.specs.Radix.{lower, upper, tableByte, radix};
 
-// The digits in order, in lower and in upper case.
-const LOWER: [u8; 16] = *b"0123456789abcdef";
-
-const UPPER: [u8; 16] = *b"0123456789ABCDEF";
+// The digits in order.
+const DIGITS: [u8; 16] = *b"0123456789abcdef";
 
 // The table by value, with its rule. A constant that is named is copied each time: the writer takes it once here and lends it on.
-fn digit_table(capital: bool) -> [u8; 16]
-    ensures { λ r. ⌜ r ≡ tabulate 16 (alphabet capital) 0 ⌝ }
+fn digit_table() -> [u8; 16]
+    ensures { λ r. ⌜ r ≡ tabulate 16 lower 0 ⌝ }
 {
-    if capital {
-        return UPPER;
-    }
-    LOWER
+    DIGITS
 }
 
 // The byte of the last digit of n, which stands for shift bits.
@@ -65,12 +61,12 @@ fn fmt_inner(table: &[u8; 16], shift: u32, n: u64, buf: &mut [u8], end: usize) -
     offset
 }
 
-// The same by the alphabet: capital letters or small ones.
-fn write_digits(capital: bool, shift: u32, n: u64, buf: &mut [u8], end: usize) -> usize
-    requires { ⌜ (0 < shift) × (shift ≤ 4) × (length (text (alphabet capital) (2 ^ shift) n) ≤ end) × (end ≤ length (now buf)) ⌝ }
-    ensures { λ r. ⌜ (r ≡ end - length (text (alphabet capital) (2 ^ shift) n)) × (now (buf .exit) ≡ ended (now (buf .entry)) end (text (alphabet capital) (2 ^ shift) n)) ⌝ }
+// The same by the digits in order.
+fn write_digits(shift: u32, n: u64, buf: &mut [u8], end: usize) -> usize
+    requires { ⌜ (0 < shift) × (shift ≤ 4) × (length (text lower (2 ^ shift) n) ≤ end) × (end ≤ length (now buf)) ⌝ }
+    ensures { λ r. ⌜ (r ≡ end - length (text lower (2 ^ shift) n)) × (now (buf .exit) ≡ ended (now (buf .entry)) end (text lower (2 ^ shift) n)) ⌝ }
 {
-    fmt_inner(&digit_table(capital), shift, n, buf, end)
+    fmt_inner(&digit_table(), shift, n, buf, end)
 }
 
 // The four texts of a pattern, each just before the index end. The answer is where it starts.
@@ -78,28 +74,31 @@ pub fn write_binary(n: u64, buf: &mut [u8], end: usize) -> usize
     requires { ⌜ (length (text lower 2 n) ≤ end) × (end ≤ length (now buf)) ⌝ }
     ensures { λ r. ⌜ (r ≡ end - length (text lower 2 n)) × (now (buf .exit) ≡ ended (now (buf .entry)) end (text lower 2 n)) ⌝ }
 {
-    write_digits(false, 1, n, buf, end)
+    if n < 16 {
+        return write_digits(1, n, buf, end);
+    }
+    binary::write(n, buf, end)
 }
 
 pub fn write_octal(n: u64, buf: &mut [u8], end: usize) -> usize
     requires { ⌜ (length (text lower 8 n) ≤ end) × (end ≤ length (now buf)) ⌝ }
     ensures { λ r. ⌜ (r ≡ end - length (text lower 8 n)) × (now (buf .exit) ≡ ended (now (buf .entry)) end (text lower 8 n)) ⌝ }
 {
-    write_digits(false, 3, n, buf, end)
+    write_digits(3, n, buf, end)
 }
 
 pub fn write_lower_hex(n: u64, buf: &mut [u8], end: usize) -> usize
     requires { ⌜ (length (text lower 16 n) ≤ end) × (end ≤ length (now buf)) ⌝ }
     ensures { λ r. ⌜ (r ≡ end - length (text lower 16 n)) × (now (buf .exit) ≡ ended (now (buf .entry)) end (text lower 16 n)) ⌝ }
 {
-    write_digits(false, 4, n, buf, end)
+    hex::write(97, n, buf, end)
 }
 
 pub fn write_upper_hex(n: u64, buf: &mut [u8], end: usize) -> usize
     requires { ⌜ (length (text upper 16 n) ≤ end) × (end ≤ length (now buf)) ⌝ }
     ensures { λ r. ⌜ (r ≡ end - length (text upper 16 n)) × (now (buf .exit) ≡ ended (now (buf .entry)) end (text upper 16 n)) ⌝ }
 {
-    write_digits(true, 4, n, buf, end)
+    hex::write(65, n, buf, end)
 }
 
 // The text of n by the format code, just before the index end. The answer is where it starts.

@@ -1,3 +1,5 @@
 -- Laws that belong to no one function.
 pub mod Bytes
+pub mod Stores
+pub mod Zeros
 pub mod Joined

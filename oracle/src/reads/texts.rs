@@ -19,7 +19,7 @@ pub fn of_bytes(share: u64, mut visit: impl FnMut(&[u8])) {
 }
 
 /// Every text of up to five bytes from those that make a difference in a format.
-pub fn of_alphabet(format: u32, share: u64, mut visit: impl FnMut(&[u8])) {
+pub fn of_alphabet(format: u32, share: u64, visit: impl FnMut(&[u8])) {
     let alphabet: &[u8] = match format {
         0 => b"01289-+a",
         1 => b"012-+b",
@@ -29,8 +29,20 @@ pub fn of_alphabet(format: u32, share: u64, mut visit: impl FnMut(&[u8])) {
         5 => b"0159.e-E",
         _ => b"0159.E-e",
     };
+    of_bytes_in(alphabet, LONGEST_SHORT, share, visit);
+}
+
+/// Every text of up to three bytes from those that make a difference in some format, with their neighbours.
+pub fn of_all_that_matter(share: u64, visit: impl FnMut(&[u8])) {
+    of_bytes_in(b"0123456789abcdefABCDEF.-+xobeE _/:@G`g", 3, share, visit);
+}
+
+fn of_bytes_in(alphabet: &[u8], longest: u32, share: u64, mut visit: impl FnMut(&[u8])) {
     let base = alphabet.len() as u64;
-    for length in 1..=LONGEST_SHORT {
+    if share == 0 {
+        visit(b"");
+    }
+    for length in 1..=longest {
         for number in (share..base.pow(length)).step_by(SHARES as usize) {
             let mut text = [0; LONGEST_SHORT as usize];
             for place in 0..length {

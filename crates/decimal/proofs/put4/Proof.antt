@@ -6,7 +6,7 @@ use lib.Dec.{lit<}
 use lib.Seq.{sets}
 use Rattle.digits.specs.Text.{ascii, lastText}
 use Rattle.digits.proofs.Text.{length-lastText, lastText-split, lastText-mod}
-use Rattle.decimal.proofs.Pending.{sets-append}
+use Rattle.words.proofs.Stores.{sets-append}
 use borrow.Author.Needs.{needs}
 use Rattle.decimal.proofs.put4.Statement.{statement}
 use Rattle.decimal.proofs.put4.Tie as tie

@@ -1,71 +1,58 @@
--- `digits::digit_count` meets its contract. The invariant: the digits counted and those of what is left are one more than those of n.
--- The measure is what is left. Assumes nothing.
-use mathlib.Core.Path.{_≡_, ap}
-use Prim.Native.Nat.{_+_, _≤_, _<_}
+-- `digits::digit_count` meets its contract: the digits that the bits of n | 1 are worth, or one more. Assumes nothing.
+use mathlib.Core.Path.{_≡_, refl, sym, _∙_}
+use Prim.Native.Nat.{ℕ, _+_, _*_, _/_, _^_, _<_}
 use native.Mathlib.Omega.{arith}
+use lib.Count.{leading-le}
 use lib.Dec.{lit<}
 use lib.ListN.{length}
+use Rattle.digits.specs.Digits.{digits}
 use Rattle.digits.specs.Text.{ascii, decimal}
-use Rattle.digits.proofs.Text.{text-longer, text-length, text-most, text-small}
+use Rattle.digits.proofs.Count.{odd-length, count-less, count-more}
+use Rattle.digits.proofs.Text.{length-text}
+use borrow.Author.Needs.{needs}
 use Rattle.digits.proofs.digit_count.Statement.{statement}
 use Rattle.digits.proofs.digit_count.Tie as tie
 
-ten : 1 < 10
-ten = lit< tt
+mul-x : tie.Need-mul-x
+mul-x c = search needs
 
-abbrev Inv-loop : tie.InvT-loop
-Inv-loop n rest₀ count₀ rest count = (count + length (decimal rest) ≡ length (decimal n) + 1) × (length (decimal n) ≤ 20)
+add-x : tie.Need-add-x
+add-x c = search needs
 
-abbrev μ-loop : tie.MeasureT-loop
-μ-loop n rest₀ count₀ rest count = rest
+sub-t : tie.Need-sub-t
+sub-t c = leading-le 64 _
 
-loop-holds : tie.Need-loop-holds Inv-loop μ-loop
-loop-holds c = (omega arith, text-most ascii 10 ten 20 (c .args .n) (lit< tt) (omega (arith, c .fits .n .fits)))
+mul-t : tie.Need-mul-t
+mul-t c = search needs
 
-add-count : tie.Need-add-count Inv-loop μ-loop
-add-count c = omega arith
+cast-t : tie.Need-cast-t
+cast-t c = search needs
 
-loop-less : tie.Need-loop-less Inv-loop μ-loop
-loop-less c = omega arith
+power-requires : tie.Need-power-requires
+power-requires c κs = search needs
 
-loop-again : tie.Need-loop-again Inv-loop μ-loop
-loop-again c = (omega (arith, text-longer ascii 10 ten 4 (c .before .loop .rest) (c .loop-test .taken)), c .before .loop .inv .1)
+-- n | 1 has as many digits
+same : (n : ℕ) → length (digits 10 (n / 2 * 2 + 1)) ≡ length (decimal n)
+same n = odd-length n ∙ sym (length-text ascii 10 (lit< tt) n)
 
-returns : tie.Need-returns Inv-loop μ-loop
-returns c = omega (arith, ap length (text-small ascii 10 ten (c .before .before .loop .rest) (c .if1 .taken)))
+fits : (n : ℕ) → n < 2 ^ 64 → n / 2 * 2 + 1 < 2 ^ 64
+fits n h = omega arith
 
-add-result : tie.Need-add-result Inv-loop μ-loop
-add-result c = omega arith
+returns : tie.Need-returns
+returns c =
+    let s = c .before .before in
+    let n = s .args .n in
+    count-less (n / 2 * 2 + 1) (omega arith) (fits n (s .fits .n .fits)) _ refl (rw (← c .before .power .ensures) (c .if1 .taken)) ∙ same n
 
-returns-2 : tie.Need-returns-2 Inv-loop μ-loop
-returns-2 c = omega (arith, text-length ascii 10 ten 1 (c .before .before .before .loop .rest) (omega arith) (omega arith))
+add-result : tie.Need-add-result
+add-result c = search needs
 
-add-result-2 : tie.Need-add-result-2 Inv-loop μ-loop
-add-result-2 c = omega arith
-
-returns-3 : tie.Need-returns-3 Inv-loop μ-loop
-returns-3 c = omega (arith, text-length ascii 10 ten 2 (c .before .before .before .before .loop .rest) (omega arith) (omega arith))
-
-add-result-3 : tie.Need-add-result-3 Inv-loop μ-loop
-add-result-3 c = omega arith
-
-returns-4 : tie.Need-returns-4 Inv-loop μ-loop
-returns-4 c = omega (arith, text-length ascii 10 ten 3 (c .before .before .before .before .loop .rest) (omega arith) (omega arith))
+returns-2 : tie.Need-returns-2
+returns-2 c =
+    let s = c .before .before in
+    let n = s .args .n in
+    count-more (n / 2 * 2 + 1) (omega arith) (fits n (s .fits .n .fits)) _ refl (rw (← c .before .power .ensures) (c .if1 .left)) ∙ same n
 
 pub digit-count-spec : {M : Type 1} → statement M
 digit-count-spec =
-    tie.close
-    (tie.spec
-    Inv-loop
-    μ-loop
-    loop-holds
-    add-count
-    loop-less
-    loop-again
-    returns
-    add-result
-    returns-2
-    add-result-2
-    returns-3
-    add-result-3
-    returns-4)
+    tie.close (tie.spec mul-x add-x sub-t mul-t cast-t power-requires returns add-result returns-2)

@@ -30,16 +30,25 @@ same-length : tie.Need-same-length
 same-length c = search needs
 
 returns : tie.Need-returns
-returns c = one-digit _ _ _ _ (c .if1 .taken) (omega arith)
+returns c = let a = c .before .before .args in one-digit (a .buf .now) (a .at) (a .coef) (a .coef-prec) (a .more-prec) (c .if1 .taken) (omega arith)
 
 add-coef-len : tie.Need-add-coef-len
 add-coef-len c = search needs
 
+add-write-before : tie.Need-add-write-before
+add-write-before c = search needs
+
 write-before-requires : tie.Need-write-before-requires
 write-before-requires c κs = (omega (arith, T.decimal-are (c .before .before .before .args .coef)), c .before .before .before .pre .2)
 
-slice-read-buf : tie.Need-slice-read-buf
-slice-read-buf c = search needs
+add-lead : tie.Need-add-lead
+add-lead c = search needs
+
+slice-read-lead : tie.Need-slice-read-lead
+slice-read-lead c = search needs
+
+add-buf-2 : tie.Need-add-buf-2
+add-buf-2 c = search needs
 
 slice-write-buf-2 : tie.Need-slice-write-buf-2
 slice-write-buf-2 c = search needs
@@ -53,7 +62,8 @@ same-length-2 c = search needs
 returns-2 : tie.Need-returns-2
 returns-2 c =
     let s = c .before .before .before .before .before .before .before in
-    rw (c .before .before .before .write-before .ensures .1) (fraction _ _ _ _ (s .pre .0) (c .before .before .before .before .before .if1 .left) (s .pre .2))
+    let a = s .args in
+    rw (c .before .before .before .write-before .ensures .1) (fraction (a .buf .now) (a .at) (a .coef) (a .coef-prec) (a .more-prec) (s .pre .0) (c .before .before .before .before .before .if1 .left) (s .pre .2))
 
 pub encode-coef-spec : {M : Type 1} → statement M
 encode-coef-spec =
@@ -66,8 +76,11 @@ encode-coef-spec =
     same-length
     returns
     add-coef-len
+    add-write-before
     write-before-requires
-    slice-read-buf
+    add-lead
+    slice-read-lead
+    add-buf-2
     slice-write-buf-2
     slice-write-buf-3
     same-length-2

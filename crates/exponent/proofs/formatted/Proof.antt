@@ -1,7 +1,7 @@
 -- `exponent::formatted` meets its contract: the parts that it answers are the text. Assumes nothing.
 use native.Mathlib.Omega.{arith}
 use borrow.Author.Needs.{needs}
-use Rattle.exponent.proofs.Joined.{coef-length, texts}
+use Rattle.exponent.proofs.Joined.{coef-length, exp-most, texts}
 use Rattle.exponent.proofs.formatted.Statement.{statement}
 use Rattle.exponent.proofs.formatted.Tie as tie
 
@@ -18,7 +18,8 @@ encode-exp-requires : tie.Need-encode-exp-requires
 encode-exp-requires c κs =
     let s = c .before .before .before .before .before .scale in
     let l = coef-length (s .result .coef) (s .result .«coef_prec») (s .result .«more_prec») in
-    (omega arith, omega (arith, s .ensures .few))
+    let h = c .before .before .before .if1 .left in
+    (omega arith, omega (arith, s .ensures .few, exp-most (c .before .before .before .before .before .before .args .letter) (s .result .exp) (omega arith)))
 
 copy-requires : tie.Need-copy-requires
 copy-requires c κs = search needs

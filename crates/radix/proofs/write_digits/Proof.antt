@@ -1,9 +1,9 @@
--- `radix::write_digits` meets its contract: the table gives the alphabet's text. Assumes nothing.
+-- `radix::write_digits` meets its contract: the table gives the text. Assumes nothing.
 use mathlib.Core.Path.{_≡_}
 use Prim.Native.Nat.{_^_}
 use lib.Pow.{pow-mono}
 use Rattle.digits.specs.Text.{text}
-use Rattle.radix.specs.Radix.{alphabet, tableByte}
+use Rattle.radix.specs.Radix.{lower, tableByte}
 use Rattle.radix.proofs.Shift.{above-one}
 use Rattle.radix.proofs.Table.{table-text}
 use borrow.Author.Needs.{needs}
@@ -11,11 +11,11 @@ use Rattle.radix.proofs.write_digits.Statement.{statement}
 use Rattle.radix.proofs.write_digits.Tie as tie
 
 by-table : (c : tie.After-digit-table) → let a = c .before .before .args in
-    text (tableByte (c .digit-table .result)) (2 ^ a .shift) (a .n) ≡ text (alphabet (a .capital)) (2 ^ a .shift) (a .n)
+    text (tableByte (c .digit-table .result)) (2 ^ a .shift) (a .n) ≡ text lower (2 ^ a .shift) (a .n)
 by-table c =
     let start = c .before .before in
     rw (c .digit-table .ensures)
-    (table-text 16 (alphabet (start .args .capital)) (2 ^ start .args .shift) (start .args .n) (above-one (start .pre .0)) (pow-mono (start .pre .1)))
+    (table-text 16 lower (2 ^ start .args .shift) (start .args .n) (above-one (start .pre .0)) (pow-mono (start .pre .1)))
 
 digit-table-requires : tie.Need-digit-table-requires
 digit-table-requires c κs = search needs

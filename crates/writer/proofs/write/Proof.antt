@@ -1,7 +1,7 @@
 -- `writer::write` meets its contract. Assumes nothing.
 use mathlib.Core.Path.{sym, _∙_}
 use borrow.Author.Tests.{not-true, not-false}
-use Rattle.writer.proofs.Cases.{known-range, type-refused, value-refused, judged}
+use Rattle.writing.proofs.Cases.{known-range, type-refused, value-refused, judged}
 use borrow.Author.Needs.{needs}
 use Rattle.writer.proofs.write.Statement.{statement}
 use Rattle.writer.proofs.write.Tie as tie

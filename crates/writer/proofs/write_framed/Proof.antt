@@ -1,86 +1,79 @@
 -- `writer::write_framed` meets its contract. Assumes nothing.
-use mathlib.Core.Path.{_≡_, sym}
-use Prim.Native.Nat.{_+_}
-use native.Mathlib.Omega.{arith}
+use mathlib.Core.Path.{refl}
 use lib.ListN.{length}
-use Rattle.padding.specs.Padding.{signOf, prefixOf}
-use Rattle.writer.specs.Promise.{Laid}
-use Rattle.writer.specs.Text.{plain}
-use Rattle.writer.proofs.Cases.{plain-few, need-is, no-room, in-room}
+use Rattle.kinds.specs.Kinds.{meaning}
+use Rattle.writing.proofs.Cases.{decimal-writes, radix-writes, exponent-writes, fill-known, known-range}
 use borrow.Author.Needs.{needs}
 use Rattle.writer.proofs.write_framed.Statement.{statement}
 use Rattle.writer.proofs.write_framed.Tie as tie
 
-cast-fill : tie.Need-cast-fill
-cast-fill c = search needs
+split-pattern-requires : tie.Need-split-pattern-requires
+split-pattern-requires c κs = search needs
 
-count-digits-requires : tie.Need-count-digits-requires
-count-digits-requires c κs = search needs
-
--- the layout of these digits
-laid : (c : tie.After-lay-out) →
-    let a = c .before .before .before .before .args in Laid (a .options) (a .negative) (a .format) (plain (a .format) (a .n)) (c .lay-out .result .pad) (c .lay-out .result .need)
-laid c =
-    let a = c .before .before .before .before .args in
-    c .lay-out .ensures (plain (a .format) (a .n)) (sym (c .before .count-digits .ensures))
-
-pieces : (c : tie.After-lay-out) →
-    let a = c .before .before .before .before .args in
-    c .lay-out .result .need ≡ (c .lay-out .result .pad .before + (length (signOf (a .negative) (a .options .plus)) + (length (prefixOf (a .options .alternate) (a .format)) + c .lay-out .result .pad .zeros))) + (length (plain (a .format) (a .n)) + c .lay-out .result .pad .behind)
-pieces c =
-    let a = c .before .before .before .before .args in
-    need-is (a .options) (a .negative) (a .format) (plain (a .format) (a .n)) (c .lay-out .result .pad) (c .lay-out .result .need) (laid c)
-
-lay-out-requires : tie.Need-lay-out-requires
-lay-out-requires c κs = let s = c .before .before .before in omega (arith, c .count-digits .ensures, plain-few (s .args .format) (s .args .n) (s .fits .n .fits))
-
-returns : tie.Need-returns
-returns c =
-    let l = c .before in
-    let a = l .before .before .before .before .args in
-    no-room (a .options) (a .negative) (a .format) (plain (a .format) (a .n)) (l .lay-out .result .pad) (l .lay-out .result .need) (laid l) (a .out .now) (c .if1 .taken)
-
-fill-requires : tie.Need-fill-requires
-fill-requires c κs = let e = c .before .before in (omega (arith, pieces (e .before)), e .if1 .left)
-
-sub-write-digits : tie.Need-sub-write-digits
-sub-write-digits c = omega (arith, pieces (c .before .before .before .before .before .before .before))
-
-write-digits-requires : tie.Need-write-digits-requires
-write-digits-requires c κs =
-    let e = c .before .before .before .before .before .before in
-    (omega (arith, pieces (e .before)), omega (arith, e .if1 .left))
-
-put-front-requires : tie.Need-put-front-requires
-put-front-requires c κs =
-    let e = c .before .before .before .before .before .before .before .before .before .before in
-    let w = c .before .before .before .write-digits in
-    (omega (arith, pieces (e .before), w .ensures .0), omega (arith, w .ensures .0, e .if1 .left))
+write-framed-requires : tie.Need-write-framed-requires
+write-framed-requires c κs = let s = c .before .before .before .before in fill-known (s .args .format) (s .args .options) (s .pre .2)
 
 same-length : tie.Need-same-length
 same-length c = search needs
 
+returns : tie.Need-returns
+returns c =
+    let t = c .before .before .before .before .before .before .before in
+    let a = t .args in
+    let s = c .before .before .before .before .split-pattern in
+    let w = c .before .before .write-framed in
+    decimal-writes (a .bits) (meaning 64 (a .signed) (a .value)) (a .format) (a .options) (length (a .out .now)) (t .pre .2) (s .result) (s .ensures) (a .out .now) (w .result) (w .last .1 .1 .1 .1 .0) refl (c .before .before .before .before .before .if1 .taken) (w .ensures)
+
+own-pattern-requires : tie.Need-own-pattern-requires
+own-pattern-requires c κs =
+    let s = c .before .before .before in
+    let k = known-range (s .args .bits) (s .pre .0) in
+    (k .0, k .1, s .pre .1)
+
+write-framed-requires-2 : tie.Need-write-framed-requires-2
+write-framed-requires-2 c κs = let s = c .before .before .before .before .before in fill-known (s .args .format) (s .args .options) (s .pre .2)
+
+same-length-2 : tie.Need-same-length-2
+same-length-2 c = search needs
+
 returns-2 : tie.Need-returns-2
 returns-2 c =
-    let e = c .before .before .before .before .before .before .before .before .before .before .before .before .before in
-    let l = e .before in
-    let a = l .before .before .before .before .args in
-    let f = c .before .before .before .before .before .before .before .before .before .before .fill in
-    let w = c .before .before .before .before .before .before .write-digits in
-    let p = c .before .before .put-front in
-    in-room (a .options) (a .negative) (a .format) (plain (a .format) (a .n)) (l .lay-out .result .pad) (l .lay-out .result .need) (laid l) (a .out .now) (f .last .1 .1 .0) (w .last .1 .1 .0) (p .last .1 .1 .1 .1 .1 .1 .0) (w .result) (e .if1 .left) (f .ensures) (w .ensures .1) (w .ensures .0) (p .ensures)
+    let t = c .before .before .before .before .before .before .before .before in
+    let a = t .args in
+    let p = c .before .before .before .before .own-pattern in
+    let w = c .before .before .write-framed2 in
+    radix-writes (a .bits) (meaning 64 (a .signed) (a .value)) (a .format) (a .options) (length (a .out .now)) (t .pre .2) (p .result) (p .ensures) (a .out .now) (w .result) (w .last .1 .1 .1 .1 .0) refl (c .before .before .before .before .before .before .if1 .left) (c .before .before .before .before .before .if2 .taken) (w .ensures)
+
+split-pattern-requires-2 : tie.Need-split-pattern-requires-2
+split-pattern-requires-2 c κs = search needs
+
+write-framed-exponent-requires : tie.Need-write-framed-exponent-requires
+write-framed-exponent-requires c κs = let s = c .before .before .before .before .before in fill-known (s .args .format) (s .args .options) (s .pre .2)
+
+same-length-3 : tie.Need-same-length-3
+same-length-3 c = search needs
+
+returns-3 : tie.Need-returns-3
+returns-3 c =
+    let t = c .before .before .before .before .before .before .before .before in
+    let a = t .args in
+    let s = c .before .before .before .before .split-pattern2 in
+    let w = c .before .before .write-framed-exponent in
+    exponent-writes (a .bits) (meaning 64 (a .signed) (a .value)) (a .format) (a .options) (length (a .out .now)) (t .pre .2) (s .result) (s .ensures) (a .out .now) (w .result) (w .last .1 .1 .1 .1 .0) refl (c .before .before .before .before .before .if2 .left) (w .ensures)
 
 pub write-framed-spec : {M : Type 1} → statement M
 write-framed-spec =
     tie.close
     (tie.spec
-    cast-fill
-    count-digits-requires
-    lay-out-requires
-    returns
-    fill-requires
-    sub-write-digits
-    write-digits-requires
-    put-front-requires
+    split-pattern-requires
+    write-framed-requires
     same-length
-    returns-2)
+    returns
+    own-pattern-requires
+    write-framed-requires-2
+    same-length-2
+    returns-2
+    split-pattern-requires-2
+    write-framed-exponent-requires
+    same-length-3
+    returns-3)

@@ -1,0 +1,17 @@
+-- `eights::text8` meets its contract. Assumes nothing.
+use native.Mathlib.Omega.{arith}
+use lib.Dec.{lit≤}
+use Rattle.eights.proofs.Text.{same, bytes-add, same-most}
+use Rattle.eights.proofs.text8.Statement.{statement}
+use Rattle.eights.proofs.text8.Tie as tie
+
+add-result : tie.Need-add-result
+unfolding same
+add-result c = omega (arith, same-most 9 8 (c .args .x) (c .fits .x .fits) (c .pre))
+
+returns : tie.Need-returns
+unfolding same
+returns c = bytes-add 48 10 8 (c .args .x) (lit≤ tt) (c .pre)
+
+pub text8-spec : {M : Type 1} → statement M
+text8-spec = tie.close (tie.spec add-result returns)

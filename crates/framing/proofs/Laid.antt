@@ -1,0 +1,105 @@
+-- A text that is laid out in a buffer, and what digits it is laid around: plain ones, and the parts of an exponent form.
+-- Assumes nothing.
+use mathlib.Core.Bool.{Bool, true, false}
+use mathlib.Core.List.{List, _++_}
+use mathlib.Core.Option.{Option}
+use mathlib.Core.Path.{_≡_, refl, sym, ap, _∙_}
+use Prim.Native.Nat.{ℕ, _+_, _-_, _^_, _≤_, _<_}
+use native.Mathlib.Omega.{arith}
+use native.Mathlib.Nat.{lt-of-lt-of-le}
+use lib.Dec.{eqb, leb, lit<, lit≤}
+use borrow.Author.Tests.{ne-eqb, le-leb, lt-leb}
+use lib.ListN.{length, replicate, length-append, length-replicate}
+use Rattle.buffer.specs.AtEnd.{ended}
+use Rattle.buffer.proofs.AtEnd.{ended-on, ended-whole}
+use Rattle.digits.specs.Text.{ascii, decimal}
+use Rattle.digits.proofs.Text.{text-most}
+use Rattle.exponent.specs.Form.{Texts, Answers}
+use Rattle.exponent.specs.declared.Shown.{Shown}
+use Rattle.exponent.specs.declared.Shown.the-variants as shown
+use Rattle.parts.specs.Parts as Parts
+use Rattle.parts.specs.Parts.{Inside, trueLength, partsOf}
+use Rattle.parts.specs.declared.Formatted.{Formatted}
+use Rattle.padding.specs.Padding.{signOf, prefixOf}
+use Rattle.padding.specs.declared.Pad.{Pad}
+use Rattle.padding.proofs.Padding.{padded-is, padded-length}
+use Rattle.radix.specs.Radix.{radix}
+use Rattle.radix.proofs.Lengths.{radix-most}
+use Rattle.scientific.specs.Layout.{expText}
+use Rattle.scientific.specs.Sci.{sci}
+use Rattle.writing.specs.Promise.{fitted, answer, Writes}
+use Rattle.writing.specs.Text.{framed, plain, textOf}
+use Rattle.writing.specs.declared.Options.{Options}
+use Rattle.writing.specs.declared.Written.the-variants.{Done, ExponentRefused, NoRoom}
+use Rattle.framing.specs.Laid.{Laid}
+
+pub plain-decimal : (format n : ℕ) → format ≡ 0 → plain format n ≡ decimal n
+plain-decimal format n e = ap (λ (f : ℕ). plain f n) e
+
+pub plain-radix : (format n : ℕ) → (format ≡ 0 → ⊥) → plain format n ≡ radix format n
+plain-radix format n h = rw (ne-eqb format 0 h)
+
+-- no plain form of a 64-bit number is longer than its binary
+pub plain-few : (format n : ℕ) → n < 2 ^ 64 → length (plain format n) ≤ 64
+plain-few format n h = go (eqb format 0) refl
+  where
+    go : (t : Bool) → eqb format 0 ≡ t → length (plain format n) ≤ 64
+    go true e = rw e (text-most ascii 10 (lit< tt) 64 n (lit< tt) (lt-of-lt-of-le h (lit≤ tt)))
+    go false e = rw e (radix-most format 64 n (lit< tt) h)
+
+-- ---- a text that is laid out
+
+module _ (o : Options) (negative : Bool) (format : ℕ) (digits : List ℕ) (pad : Pad) (need : ℕ) (L : Laid o negative format digits pad need) where
+  abbrev front : List ℕ
+  front = replicate (pad .before) (o .fill) ++ (signOf negative (o .plus) ++ (prefixOf (o .alternate) format ++ replicate (pad .zeros) 48))
+
+  -- the whole length, by its pieces
+  pub need-is : need ≡ (pad .before + (length (signOf negative (o .plus)) + (length (prefixOf (o .alternate) format) + pad .zeros))) + (length digits + pad .behind)
+  need-is = L .whole ∙ padded-length (o .zero) (o .fill) (o .align) (o .width) (signOf negative (o .plus)) (prefixOf (o .alternate) format) digits (L .planned)
+
+  pub no-room : (l : List ℕ) → length l < need → Writes (framed o negative format digits) (fitted (framed o negative format digits) (length l)) l (NoRoom need) l
+  no-room l h =
+      let t = framed o negative format digits in
+      let f : fitted t (length l) ≡ NoRoom (length t) = rw (lt-leb (length t) (length l) (omega (arith, L .whole))) in
+      rw f (record { answers = ap NoRoom (L .whole); leaves = refl })
+
+  -- behind, digits and front, each just before what is behind it
+  pub in-room : (l l₁ l₂ l₃ : List ℕ) (at : ℕ) → need ≤ length l
+      → l₁ ≡ ended l need (replicate (pad .behind) (o .fill))
+      → l₂ ≡ ended l₁ (need - pad .behind) digits
+      → at ≡ (need - pad .behind) - length digits
+      → l₃ ≡ ended l₂ at front
+      → Writes (framed o negative format digits) (fitted (framed o negative format digits) (length l)) l (Done need) l₃
+  in-room l l₁ l₂ l₃ at h e₁ e₂ i e₃ =
+      let t = framed o negative format digits in
+      let back = replicate (pad .behind) (o .fill) in
+      let nb = length-replicate (pad .behind) (o .fill) in
+      let nz = length-replicate {A = ℕ} (pad .zeros) 48 in
+      let nf = length-replicate (pad .before) (o .fill) in
+      let nd = length-append digits back in
+      let np = length-append (prefixOf (o .alternate) format) (replicate {A = ℕ} (pad .zeros) 48) in
+      let ns = length-append (signOf negative (o .plus)) (prefixOf (o .alternate) format ++ replicate {A = ℕ} (pad .zeros) 48) in
+      let na = length-append (replicate (pad .before) (o .fill)) (signOf negative (o .plus) ++ (prefixOf (o .alternate) format ++ replicate {A = ℕ} (pad .zeros) 48)) in
+      let n = need-is in
+      let s₂ = ended-on l need back digits e₁ e₂ (omega arith) (omega arith) h in
+      let s₃ = ended-on l need (digits ++ back) front s₂ e₃ (omega arith) (omega arith) h in
+      let w : front ++ (digits ++ back) ≡ t = sym (padded-is (o .zero) (o .fill) (o .align) (o .width) (signOf negative (o .plus)) (prefixOf (o .alternate) format) digits (L .planned)) in
+      let f : fitted t (length l) ≡ Done (length t) = rw (le-leb (length t) (length l) (omega (arith, L .whole))) in
+      rw f (record { answers = ap Done (L .whole); leaves = s₃ ∙ rw (w, L .whole) (ended-whole l t) })
+
+-- what the parts of an exponent form are, whatever its sign code is called
+pub record Digits (letter : ℕ) (p : Option ℕ) (n : ℕ) (src : List ℕ) (f : Formatted) : Type 0 where
+  pub kept : sci p n .expo ≤ 99
+  pub source : length src ≡ 24
+  pub inside : Inside (length src) (partsOf f)
+  pub text : Parts.textOf (f .sign) src (partsOf f) ≡ expText letter p n
+  pub size : trueLength (f .sign) (partsOf f) ≡ length (expText letter p n)
+  pub few : length (expText letter p n) < 2 ^ 17
+
+pub digits-of : (letter letter′ : ℕ) (p : Option ℕ) (n : ℕ) (src : List ℕ) (f : Formatted) (r : Shown) → letter′ ≡ letter → r ≡ shown.Parts f → Answers letter′ p n src r → Digits letter p n src f
+digits-of letter letter′ p n src f r i e A =
+    let T : Texts letter p n src f = rw (e, i) at A in
+    record { kept = T .expo; source = T .source; inside = T .inside; text = rw (T .sign) (T .text); size = rw (T .sign) (T .size); few = T .few }
+
+pub refused-of : (letter : ℕ) (p : Option ℕ) (n : ℕ) (src : List ℕ) (r : Shown) → r ≡ shown.ExponentRefused → Answers letter p n src r → 99 < sci p n .expo
+refused-of letter p n src r e A = rw e at A

@@ -1,0 +1,93 @@
+-- `framing::write_bare` meets its contract. Assumes nothing.
+use mathlib.Core.Bool.{Bool}
+use mathlib.Core.List.{_∷_}
+use mathlib.Core.Path.{_≡_, ap}
+use Prim.Native.Nat.{_+_}
+use native.Mathlib.Omega.{arith}
+use lib.ListN.{set}
+use Rattle.buffer.proofs.AtEnd.{ended-front}
+use Rattle.writing.specs.Text.{bare, plain}
+use Rattle.writing.proofs.Cases.{lacks-room, has-room}
+use Rattle.framing.proofs.Laid.{plain-few}
+use borrow.Author.Needs.{needs}
+use Rattle.framing.proofs.write_bare.Statement.{statement}
+use Rattle.framing.proofs.write_bare.Tie as tie
+
+count-digits-requires : tie.Need-count-digits-requires
+count-digits-requires c κs = search needs
+
+-- the text, behind a minus and without one
+below : (c : tie.Then1) → let a = c .before .before .before .args in bare (a .negative) (plain (a .format) (a .n)) ≡ 45 ∷ plain (a .format) (a .n)
+below c = let a = c .before .before .before .args in ap (λ (b : Bool). bare b (plain (a .format) (a .n))) (c .if1 .taken)
+
+from : (c : tie.Else1) → let a = c .before .before .before .args in bare (a .negative) (plain (a .format) (a .n)) ≡ plain (a .format) (a .n)
+from c = let a = c .before .before .before .args in ap (λ (b : Bool). bare b (plain (a .format) (a .n))) (c .if1 .left)
+
+add-need : tie.Need-add-need
+add-need c = let s = c .before .before .before in record { fits = omega (arith, c .before .count-digits .ensures, plain-few (s .args .format) (s .args .n) (s .fits .n .fits)) }
+
+returns : tie.Need-returns
+returns c =
+    let t = c .before in
+    let a = t .before .before .before .args in
+    let n = t .before .count-digits in
+    rw (below t) (lacks-room (45 ∷ plain (a .format) (a .n)) (a .out .now) (n .result + 1) (omega (arith, n .ensures)) (c .if2 .taken))
+
+write-digits-requires : tie.Need-write-digits-requires
+write-digits-requires c κs = search needs
+
+slice-write-out : tie.Need-slice-write-out
+slice-write-out c = search needs
+
+same-length : tie.Need-same-length
+same-length c = search needs
+
+returns-2 : tie.Need-returns-2
+returns-2 c =
+    let e = c .before .before .before .before in
+    let t = e .before in
+    let a = t .before .before .before .args in
+    let n = t .before .count-digits in
+    let w = c .before .before .write-digits in
+    let d = plain (a .format) (a .n) in
+    rw (below t)
+    (has-room (45 ∷ d) (a .out .now) (n .result + 1) (omega (arith, n .ensures)) (set (w .last .1 .1 .0) 0 45) (e .if2 .left)
+    (rw (w .ensures .1) (ended-front (a .out .now) 0 (n .result + 1) 45 d (omega (arith, n .ensures)) (e .if2 .left))))
+
+returns-3 : tie.Need-returns-3
+returns-3 c =
+    let t = c .before in
+    let a = t .before .before .before .args in
+    let n = t .before .count-digits in
+    rw (from t) (lacks-room (plain (a .format) (a .n)) (a .out .now) (n .result) (n .ensures) (c .if3 .taken))
+
+write-digits-requires-2 : tie.Need-write-digits-requires-2
+write-digits-requires-2 c κs = search needs
+
+same-length-2 : tie.Need-same-length-2
+same-length-2 c = search needs
+
+returns-4 : tie.Need-returns-4
+returns-4 c =
+    let e = c .before .before .before .before in
+    let t = e .before in
+    let a = t .before .before .before .args in
+    let n = t .before .count-digits in
+    let w = c .before .before .write-digits2 in
+    rw (from t) (has-room (plain (a .format) (a .n)) (a .out .now) (n .result) (n .ensures) (w .last .1 .1 .0) (e .if3 .left) (w .ensures .1))
+
+pub write-bare-spec : {M : Type 1} → statement M
+write-bare-spec =
+    tie.close
+    (tie.spec
+    count-digits-requires
+    add-need
+    returns
+    write-digits-requires
+    slice-write-out
+    same-length
+    returns-2
+    returns-3
+    write-digits-requires-2
+    same-length-2
+    returns-4)

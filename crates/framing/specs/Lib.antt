@@ -1,0 +1,2 @@
+-- How a text is laid out in a buffer.
+pub mod Laid

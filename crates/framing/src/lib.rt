@@ -1,0 +1,196 @@
+// Digits with what the options put around them, laid out and checked for room before the first byte: plain forms and the exponent form.
+// Carries over pad_integral and pad_formatted_parts of fmt/mod.rs, where they ask for the digits.
+ghost use mathlib.Core.Path.{_≡_};
+ghost use mathlib.Core.List.{List};
+ghost use Prim.Native.Nat.{ℕ, _-_, _≤_};
+ghost use lib.ListN.{length};
+ghost use Rattle.buffer.specs.AtEnd.{ended};
+ghost use Rattle.exponent.specs.Coefficient.{precisionOf};
+ghost use Rattle.scientific.specs.Layout.{expText};
+ghost use Rattle.writing.specs.Text.{letterOf, framed, bare, plain};
+ghost use Rattle.writing.specs.Promise.{fitted, keptAnswer, exponentAnswer, Writes};
+ghost use Rattle.framing.specs.Laid.{Laid};
+use exponent::Precision;
+use exponent::Shown;
+use padding::Pad;
+use writing::Options;
+use writing::Written;
+
+// How a text is laid out: its padding and its whole length.
+struct Layout {
+    pad: Pad,
+    need: usize,
+}
+
+// The layout of a text with so many digits.
+fn lay_out(options: Options, negative: bool, format: u32, count: usize) -> Layout
+    requires { ⌜ count ≤ 131072 ⌝ }
+    ensures { λ r. ⌜ ((digits : List ℕ) → length digits ≡ count → Laid options negative format digits (r .pad) (r .need)) ⌝ }
+{
+    let sign = padding::sign_length(negative, options.plus);
+    let prefix = padding::prefix_length(options.alternate, format);
+    let len = sign + (prefix + count);
+    let pad = padding::plan(options.zero, options.align, options.width, len);
+    let front = pad.before + (sign + (prefix + pad.zeros));
+    Layout {
+        pad,
+        need: front + (count + pad.behind),
+    }
+}
+
+// How many digits a form of a number has.
+fn count_digits(format: u32, n: u64) -> usize
+    ensures { λ r. ⌜ r ≡ length (plain format n) ⌝ }
+{
+    if format == 0 {
+        return digits::digit_count(n);
+    }
+    radix::count(format, n)
+}
+
+// The digits just before end.
+fn write_digits(format: u32, n: u64, out: &mut [u8], end: usize) -> usize
+    requires { ⌜ (length (plain format n) ≤ end) × (end ≤ length (now out)) ⌝ }
+    ensures { λ r. ⌜ (r ≡ end - length (plain format n)) × (now (out .exit) ≡ ended (now (out .entry)) end (plain format n)) ⌝ }
+{
+    if format == 0 {
+        return decimal::write_before(n, out, end);
+    }
+    radix::write_before(format, n, out, end)
+}
+
+// Digits with nothing around them but a minus: the way of most calls.
+pub fn write_bare(format: u32, n: u64, negative: bool, out: &mut [u8]) -> Written
+    ensures { λ r. ⌜ Writes (bare negative (plain format n)) (fitted (bare negative (plain format n)) (length (now (out .entry)))) (now (out .entry)) r (now (out .exit)) ⌝ }
+{
+    let count = count_digits(format, n);
+    if negative {
+        let need = count + 1;
+        if out.len() < need {
+            return Written::NoRoom(need);
+        }
+        write_digits(format, n, out, need);
+        out[0] = b'-';
+        return Written::Done(need);
+    }
+    if out.len() < count {
+        return Written::NoRoom(count);
+    }
+    write_digits(format, n, out, count);
+    Written::Done(count)
+}
+
+// Digits with what the options put around them, at the start of out.
+pub fn write_framed(
+    format: u32,
+    n: u64,
+    negative: bool,
+    options: Options,
+    out: &mut [u8],
+) -> Written
+    requires { ⌜ options .fill ≤ 126 ⌝ }
+    ensures { λ r. ⌜ Writes (framed options negative format (plain format n)) (fitted (framed options negative format (plain format n)) (length (now (out .entry)))) (now (out .entry)) r (now (out .exit)) ⌝ }
+{
+    let fill = options.fill as u8;
+    let layout = lay_out(options, negative, format, count_digits(format, n));
+    let need = layout.need;
+    if out.len() < need {
+        return Written::NoRoom(need);
+    }
+    let pad = layout.pad;
+    let behind = pad.behind;
+    buffer::fill(fill, behind, out, need);
+    let at = write_digits(format, n, out, need - behind);
+    padding::put_front(
+        pad,
+        fill,
+        negative,
+        options.plus,
+        options.alternate,
+        format,
+        out,
+        at,
+    );
+    Written::Done(need)
+}
+
+// The letter of an exponent form.
+fn letter_of(format: u32) -> u8
+    ensures { λ r. ⌜ r ≡ letterOf format ⌝ }
+{
+    if format == 5 {
+        return b'e';
+    }
+    b'E'
+}
+
+// The exponent form with nothing around it but a minus: straight into out, with no scratch.
+pub fn write_bare_exponent(
+    format: u32,
+    n: u64,
+    negative: bool,
+    precision: Precision,
+    out: &mut [u8],
+) -> Written
+    ensures { λ r. ⌜ Writes (bare negative (expText (letterOf format) (precisionOf precision) n)) (keptAnswer (precisionOf precision) n (bare negative (expText (letterOf format) (precisionOf precision) n)) (length (now (out .entry)))) (now (out .entry)) r (now (out .exit)) ⌝ }
+{
+    let scaled = exponent::scale(n, precision);
+    if 99 < scaled.exp {
+        return Written::ExponentRefused;
+    }
+    let size = scaled.size();
+    if negative {
+        let need = size + 1;
+        if out.len() < need {
+            return Written::NoRoom(need);
+        }
+        scaled.write_at(letter_of(format), out, 1);
+        out[0] = b'-';
+        return Written::Done(need);
+    }
+    if out.len() < size {
+        return Written::NoRoom(size);
+    }
+    scaled.write_at(letter_of(format), out, 0);
+    Written::Done(size)
+}
+
+// The exponent form with what the options put around it: three parts over a scratch of 24 bytes.
+pub fn write_framed_exponent(
+    format: u32,
+    n: u64,
+    negative: bool,
+    options: Options,
+    out: &mut [u8],
+) -> Written
+    requires { ⌜ options .fill ≤ 126 ⌝ }
+    ensures { λ r. ⌜ Writes (framed options negative format (expText (letterOf format) (precisionOf (options .precision)) n)) (exponentAnswer options negative format n (length (now (out .entry)))) (now (out .entry)) r (now (out .exit)) ⌝ }
+{
+    let fill = options.fill as u8;
+    let precision = options.precision;
+    let mut scratch = [0u8; 24];
+    let shown = exponent::formatted(n, letter_of(format), precision, &mut scratch);
+    let Shown::Parts(parts) = shown else {
+        return Written::ExponentRefused;
+    };
+    let layout = lay_out(options, negative, format, parts.size());
+    let need = layout.need;
+    if out.len() < need {
+        return Written::NoRoom(need);
+    }
+    let pad = layout.pad;
+    let behind = pad.behind;
+    buffer::fill(fill, behind, out, need);
+    let at = parts.write_before(&scratch, out, need - behind);
+    padding::put_front(
+        pad,
+        fill,
+        negative,
+        options.plus,
+        options.alternate,
+        format,
+        out,
+        at,
+    );
+    Written::Done(need)
+}

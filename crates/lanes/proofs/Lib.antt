@@ -1,0 +1,5 @@
+-- Laws that belong to no one function.
+pub mod Lanes
+pub mod Letters
+pub mod Tails
+pub mod Bits

@@ -1,0 +1,169 @@
+-- Which way each test of the definitions went, and the one answer by the form.
+-- Assumes nothing.
+use mathlib.Core.Bool.{Bool, true, false}
+use mathlib.Core.List.{List, _++_, append-nil}
+use mathlib.Core.Option.{Option}
+use mathlib.Core.Path.{_≡_, refl, sym, ap, ap₂, _∙_}
+use Prim.Native.Nat.{ℕ, _+_, _-_, _≤_, _<_}
+use native.Mathlib.Omega.{arith}
+use lib.Dec.{eqb, leb}
+use borrow.Author.Tests.{eqb-true, ne-eqb, leb-true, le-leb, lt-leb}
+use lib.IntN.{ℤ, natAbs}
+use lib.ListN.{length}
+use Rattle.buffer.specs.AtEnd.{ended}
+use Rattle.buffer.proofs.AtEnd.{ended-whole}
+use Rattle.digits.specs.Text.{decimal}
+use Rattle.exponent.specs.Coefficient.{precisionOf}
+use Rattle.exponent.specs.declared.Precision.{Precision}
+use Rattle.exponent.specs.declared.Precision.the-variants.{None}
+use Rattle.kinds.specs.Kinds.{known, inType, meaning, negative, pattern, splitOf}
+use Rattle.kinds.specs.declared.Split.{Split}
+use Rattle.padding.specs.Padding.{signOf, prefixOf}
+use Rattle.padding.proofs.Padding.{plan-none, padded-is}
+use Rattle.radix.specs.Radix.{radix}
+use Rattle.scientific.specs.Layout.{expText}
+use Rattle.scientific.specs.Sci.{sci}
+use Rattle.writing.specs.Promise.{house, Unframed, optionsKnown, fitted, keptAnswer, exponentAnswer, answerOf, answer, Writes}
+use Rattle.writing.specs.Text.{letterOf, framed, bare, plain, textOf}
+use Rattle.writing.specs.declared.Options.{Options}
+use Rattle.writing.specs.declared.Written.the-variants.{Done, TypeRefused, ValueRefused, OptionsRefused, ExponentRefused, NoRoom}
+use Rattle.writing.specs.declared.Written.{Written}
+
+-- ---- digits with nothing around them but a minus
+
+module _ (o : Options) (negative : Bool) (format : ℕ) (digits : List ℕ) where
+  pub framed-bare : {p : Precision} → Unframed o p → framed o negative format digits ≡ bare negative digits
+  framed-bare U =
+      let w = U .width in
+      let k : o .width - (length (signOf negative (o .plus)) + (length (prefixOf (o .alternate) format) + length digits)) ≡ 0 = omega arith in
+      padded-is (o .zero) (o .fill) (o .align) (o .width) (signOf negative (o .plus)) (prefixOf (o .alternate) format) digits (plan-none (o .zero) (o .align) _ k)
+      ∙ rw (U .plus, U .alternate) (ap₂ (λ (x y : List ℕ). x ++ y) (append-nil (signOf negative false)) (append-nil digits))
+
+-- ---- room
+
+module _ (t l : List ℕ) (need : ℕ) (e : need ≡ length t) where
+  pub lacks-room : length l < need → Writes t (fitted t (length l)) l (NoRoom need) l
+  lacks-room h =
+      let f : fitted t (length l) ≡ NoRoom (length t) = rw (lt-leb (length t) (length l) (omega arith)) in
+      rw f (record { answers = ap NoRoom e; leaves = refl })
+
+  pub has-room : (l′ : List ℕ) → need ≤ length l → l′ ≡ ended l need t → Writes t (fitted t (length l)) l (Done need) l′
+  has-room l′ h g =
+      let f : fitted t (length l) ≡ Done (length t) = rw (le-leb (length t) (length l) (omega arith)) in
+      rw f (record { answers = ap Done e; leaves = g ∙ rw e (ended-whole l t) })
+
+-- ---- the whole text and the one answer, by the form
+
+module _ (bits : ℕ) (z : ℤ) (format : ℕ) (o : Options) (room : ℕ) where
+  pub options-refused : optionsKnown format o ≡ false → answerOf bits z format o room ≡ OptionsRefused
+  unfolding answerOf
+  options-refused h = rw h
+
+  module _ (k : optionsKnown format o ≡ true) where
+    pub decimal-text : format ≡ 0 → textOf bits z format o ≡ framed o (negative z) format (plain format (natAbs z))
+    unfolding textOf
+    decimal-text e = rw e
+
+    pub decimal-answer : format ≡ 0 → answerOf bits z format o room ≡ fitted (textOf bits z format o) room
+    unfolding answerOf
+    decimal-answer e = rw (k, le-leb format 4 (omega arith))
+
+    pub radix-text : (format ≡ 0 → ⊥) → format ≤ 4 → textOf bits z format o ≡ framed o false format (plain format (pattern bits z))
+    unfolding textOf
+    radix-text h l = rw (ne-eqb format 0 h, le-leb format 4 l)
+
+    pub radix-answer : format ≤ 4 → answerOf bits z format o room ≡ fitted (textOf bits z format o) room
+    unfolding answerOf
+    radix-answer l = rw (k, le-leb format 4 l)
+
+    pub exponent-text : 4 < format → textOf bits z format o ≡ framed o (negative z) format (expText (letterOf format) (precisionOf (o .precision)) (natAbs z))
+    unfolding textOf
+    exponent-text l = rw (ne-eqb format 0 (λ e. omega arith), lt-leb format 4 l)
+
+    pub exponent-answer : 4 < format → answerOf bits z format o room ≡ exponentAnswer o (negative z) format (natAbs z) room
+    unfolding answerOf
+    exponent-answer l = rw (k, lt-leb format 4 l, exponent-text l)
+
+    -- from what the layers below were given, to the value
+    module _ (s : Split) (e : s ≡ splitOf z) where
+      sign : s .negative ≡ negative z
+      sign = ap (λ (x : Split). x .negative) e
+
+      size : s .magnitude ≡ natAbs z
+      size = ap (λ (x : Split). x .magnitude) e
+
+      pub decimal-writes : (l : List ℕ) (r : Written) (l′ : List ℕ) → length l ≡ room → format ≡ 0
+          → Writes (framed o (s .negative) format (plain format (s .magnitude))) (fitted (framed o (s .negative) format (plain format (s .magnitude))) (length l)) l r l′
+          → Writes (textOf bits z format o) (answerOf bits z format o room) l r l′
+      decimal-writes l r l′ i f W = rw (decimal-answer f, decimal-text f, ← i, ← sign, ← size) W
+
+      pub exponent-writes : (l : List ℕ) (r : Written) (l′ : List ℕ) → length l ≡ room → 4 < format
+          → Writes (framed o (s .negative) format (expText (letterOf format) (precisionOf (o .precision)) (s .magnitude))) (exponentAnswer o (s .negative) format (s .magnitude) (length l)) l r l′
+          → Writes (textOf bits z format o) (answerOf bits z format o room) l r l′
+      exponent-writes l r l′ i f W = rw (exponent-answer f, exponent-text f, ← i, ← sign, ← size) W
+
+    pub radix-writes : (n : ℕ) → n ≡ pattern bits z → (l : List ℕ) (r : Written) (l′ : List ℕ) → length l ≡ room → (format ≡ 0 → ⊥) → format ≤ 4
+        → Writes (framed o false format (plain format n)) (fitted (framed o false format (plain format n)) (length l)) l r l′
+        → Writes (textOf bits z format o) (answerOf bits z format o room) l r l′
+    radix-writes n e l r l′ i f h W = rw (radix-answer h, radix-text f h, ← i, ← e) W
+
+-- the fill is one byte
+pub fill-known : (format : ℕ) (o : Options) → optionsKnown format o ≡ true → o .fill ≤ 126
+fill-known format o h = go (leb format 6) (leb (o .align) 3) (leb 32 (o .fill)) (leb (o .fill) 126) refl refl refl refl
+  where
+    go : (a b c d : Bool) → leb format 6 ≡ a → leb (o .align) 3 ≡ b → leb 32 (o .fill) ≡ c → leb (o .fill) 126 ≡ d → o .fill ≤ 126
+    go a b c true e f g i = leb-true (o .fill) 126 i
+    go true true true false e f g i = absurd (let t : _≡_ {A = Bool} false true = rw (e, f, g, i) at h in let z : _≡_ {A = ℕ} 0 1 = cc in omega arith)
+    go true true false false e f g i = absurd (let t : _≡_ {A = Bool} false true = rw (e, f, g) at h in let z : _≡_ {A = ℕ} 0 1 = cc in omega arith)
+    go true false c false e f g i = absurd (let t : _≡_ {A = Bool} false true = rw (e, f) at h in let z : _≡_ {A = ℕ} 0 1 = cc in omega arith)
+    go false b c false e f g i = absurd (let t : _≡_ {A = Bool} false true = rw e at h in let z : _≡_ {A = ℕ} 0 1 = cc in omega arith)
+
+pub house-unframed : Unframed house None
+house-unframed = record { width = refl; plus = refl; alternate = refl; precision = refl }
+
+pub house-known : (format : ℕ) → format ≤ 6 → optionsKnown format house ≡ true
+house-known format h = simp (le-leb format 6 h)
+
+pub house-unknown : (format : ℕ) → 6 < format → optionsKnown format house ≡ false
+house-unknown format h = rw (lt-leb format 6 h)
+
+-- a type has 1 to 64 bits
+pub known-range : (bits : ℕ) → known bits ≡ true → (1 ≤ bits) × (bits ≤ 64)
+known-range bits h = go (eqb bits 8) (eqb bits 16) (eqb bits 32) (eqb bits 64) refl refl refl refl
+  where
+    go : (a b c d : Bool) → eqb bits 8 ≡ a → eqb bits 16 ≡ b → eqb bits 32 ≡ c → eqb bits 64 ≡ d → (1 ≤ bits) × (bits ≤ 64)
+    go true b c d e f g i = (omega (arith, eqb-true bits 8 e), omega (arith, eqb-true bits 8 e))
+    go false true c d e f g i = (omega (arith, eqb-true bits 16 f), omega (arith, eqb-true bits 16 f))
+    go false false true d e f g i = (omega (arith, eqb-true bits 32 g), omega (arith, eqb-true bits 32 g))
+    go false false false true e f g i = (omega (arith, eqb-true bits 64 i), omega (arith, eqb-true bits 64 i))
+    go false false false false e f g i = absurd (let t : _≡_ {A = Bool} false true = rw (e, f, g, i) at h in let z : _≡_ {A = ℕ} 0 1 = cc in omega arith)
+
+-- ---- the answer to an exponent form
+
+module _ (p : Option ℕ) (n : ℕ) (t l : List ℕ) where
+  pub exponent-refused : 99 < sci p n .expo → Writes t (keptAnswer p n t (length l)) l ExponentRefused l
+  exponent-refused h = rw (lt-leb (sci p n .expo) 99 h) (record { answers = refl; leaves = refl })
+
+  pub exponent-kept : (r : Written) (l′ : List ℕ) → sci p n .expo ≤ 99 → Writes t (fitted t (length l)) l r l′ → Writes t (keptAnswer p n t (length l)) l r l′
+  exponent-kept r l′ h W = rw (le-leb (sci p n .expo) 99 h) W
+
+-- ---- a type and a value that are judged first
+
+module _ (signed : Bool) (bits p format : ℕ) (o : Options) (l : List ℕ) where
+  pub type-refused : known bits ≡ false → Writes (textOf bits (meaning 64 signed p) format o) (answer signed bits p format o (length l)) l TypeRefused l
+  unfolding answer
+  type-refused h = rw h (record { answers = refl; leaves = refl })
+
+  pub value-refused : known bits ≡ true → inType signed bits (meaning 64 signed p) ≡ false → Writes (textOf bits (meaning 64 signed p) format o) (answer signed bits p format o (length l)) l ValueRefused l
+  unfolding answer
+  value-refused h g = rw (h, g) (record { answers = refl; leaves = refl })
+
+  pub judged : known bits ≡ true → inType signed bits (meaning 64 signed p) ≡ true → (r : Written) (l′ : List ℕ)
+      → Writes (textOf bits (meaning 64 signed p) format o) (answerOf bits (meaning 64 signed p) format o (length l)) l r l′
+      → Writes (textOf bits (meaning 64 signed p) format o) (answer signed bits p format o (length l)) l r l′
+  unfolding answer
+  judged h g r l′ W = rw (h, g) W
+
+-- one answer meets a promise, and it leaves one buffer
+pub one-answer : {t : List ℕ} {a : Written} {l : List ℕ} {r s : Written} {m n : List ℕ} → Writes t a l r m → Writes t a l s n → (r ≡ s) × (m ≡ n)
+one-answer p q = (p .answers ∙ sym (q .answers), p .leaves ∙ sym (q .leaves))
