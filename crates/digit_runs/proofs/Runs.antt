@@ -4,7 +4,7 @@ use mathlib.Core.Bool.{Bool, true, false, true≢false, false≢true}
 use mathlib.Core.List.{List, [], _∷_, _++_, map, append-assoc, map-append}
 use mathlib.Core.Path.{_≡_, refl, sym, ap, _∙_}
 use Prim.Native.Nat.{ℕ, _+_, _-_, _*_, _/_, _%_, _^_, _≤_, _<_}
-use native.Mathlib.Nat.{le-trans, le-add-right, le-mul-of-pos-right, mul-le-mul-right, div-add-mod', mod-lt}
+use native.Mathlib.Nat.{le-trans, le-add-right, le-mul-of-pos-right, mul-le-mul-right, div-add-mod', mod-lt, mod-eq-of-lt}
 use native.Mathlib.Numerals.{add-one}
 use native.Mathlib.Omega.{arith}
 use borrow.Author.Tests.{ltb-true, ltb-false, lt-ltb}
@@ -13,7 +13,7 @@ use lib.ListN.{length, getD, drop}
 use lib.Seq.{drop-cons}
 use Rattle.digits.specs.Digits.{valueFrom, Below}
 use Rattle.digits.specs.Text.{ascii}
-use Rattle.digits.proofs.Digits.{Below-snoc, valueFrom-append}
+use Rattle.digits.proofs.Digits.{Below-snoc, Below-append, valueFrom-append}
 use Rattle.radix.specs.Radix.{digitByte, lower}
 use Rattle.radix.proofs.Table.{map-same}
 use Rattle.scientific.specs.Shape.{sign}
@@ -42,6 +42,14 @@ is-digit letter byte r low high only-low only-high = record { is = is (ltb r 10)
     only d true e h g = only-low d (ltb-true d 10 e) (rw e at g)
     only d false e h g = only-high d (ltb-false d 10 e) h (rw e at g)
 
+-- a byte less another, wrapped: a small difference is the true one
+pub less : (x a byte : ℕ) → x + a < 256 → (x + a) % 2 ^ 8 ≡ byte → x + a ≡ byte
+less x a byte h e = sym (mod-eq-of-lt h) ∙ e
+
+-- and a true one that is small is no larger
+pub not-less : (x a byte k d : ℕ) → x < 256 → (x + a) % 2 ^ 8 ≡ byte → k ≤ x → d < k → a + d ≡ byte → ⊥
+not-less x a byte k d h e l g f = omega (arith, div-add-mod' (x + a) 256)
+
 module _ (α : ℕ → ℕ) (b : ℕ) (t : List ℕ) (from : ℕ) where
   pub no-digits : from ≤ length t → Digits α b t from from
   unfolding Below
@@ -61,11 +69,6 @@ module _ (α : ℕ → ℕ) (b : ℕ) (t : List ℕ) (from : ℕ) where
 
       text : drop from t ≡ map α (D .digits ++ (d ∷ [])) ++ drop (i + 1) t
       text = rw (map-append α (D .digits) (d ∷ []), append-assoc (map α (D .digits)) (α d ∷ []) (drop (i + 1) t), ← next) (D .text)
-
-Below-append : (b : ℕ) (xs ys : List ℕ) → Below b xs → Below b ys → Below b (xs ++ ys)
-unfolding Below
-Below-append b [] ys p q = q
-Below-append b (x ∷ xs) ys p q = (p .0, Below-append b xs ys (p .1) q)
 
 -- digits behind digits
 followed : {α : ℕ → ℕ} {b : ℕ} {t : List ℕ} {from i j : ℕ} → Digits α b t from i → Digits α b t i j → Digits α b t from j
@@ -160,3 +163,10 @@ front-inside {may} {t} {r} F h = go (F .minus) (F .size)
     go : (m : Bool) → r ≡ length (sign m) → r ≤ length t
     go true e = omega arith
     go false e = omega arith
+
+pub front-allowed : {may : Bool} {t : List ℕ} {r : ℕ} → Front may t r → ltb 0 r ≡ true → may ≡ true
+front-allowed {may} {t} {r} F h = go (F .minus) (F .size) (F .allowed)
+  where
+    go : (m : Bool) → r ≡ length (sign m) → (m ≡ true → may ≡ true) → may ≡ true
+    go true e f = f refl
+    go false e f = absurd (omega (arith, ltb-true 0 r h))

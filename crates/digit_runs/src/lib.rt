@@ -20,18 +20,13 @@ pub fn digit(byte: u8, letter: u8) -> u64
     requires { ⌜ (57 < letter) × (letter ≤ 97) ⌝ }
     ensures { λ r. ⌜ IsDigit letter byte r ⌝ }
 {
-    if byte < 48 {
-        return 255;
+    let figure = std::num::wrapping_sub_u8(byte, 48);
+    if figure < 10 {
+        return figure as u64;
     }
-    if byte < 58 {
-        return (byte - 48) as u64;
-    }
-    if byte < letter {
-        return 255;
-    }
-    let d = (byte - letter) as u64;
+    let d = std::num::wrapping_sub_u8(byte, letter);
     if d < 6 {
-        return 10 + d;
+        return 10 + d as u64;
     }
     255
 }

@@ -10,6 +10,7 @@ use lib.ListN.{take, drop, replicate}
 use lib.Pow.{pow-add}
 use lib.Seq.{take-take}
 use Rattle.digits.specs.Digits.{value, valueFrom, Below}
+use Rattle.digits.proofs.Digits.{Below-append}
 use Rattle.words.specs.Bytes.{bytesOf}
 use Rattle.words.proofs.Joined.{bytes-join, bytes-take, bytes-drop, bytes-low, bytes-shifted}
 
@@ -26,11 +27,6 @@ unfolding Below
 Below-drop b zero ds h = h
 Below-drop b (suc j) [] h = tt
 Below-drop b (suc j) (d ∷ ds) h = Below-drop b j ds (h .1)
-
-pub Below-append : (b : ℕ) (xs ys : List ℕ) → Below b xs → Below b ys → Below b (xs ++ ys)
-unfolding Below
-Below-append b [] ys p q = q
-Below-append b (x ∷ xs) ys p q = (p .0, Below-append b xs ys (p .1) q)
 
 Below-zeros : (k : ℕ) (ds : List ℕ) → Below 10 ds → Below 10 (replicate k 0 ++ ds)
 unfolding Below

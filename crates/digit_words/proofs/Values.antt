@@ -1,15 +1,17 @@
 -- The number of eight digits in a word: two of a pair, two pairs of four, two fours of all.
 -- Assumes nothing.
+use mathlib.Core.List.{map}
 use mathlib.Core.Path.{_≡_, refl, sym, ap, ap₂, _∙_}
 use Prim.Native.Nat.{ℕ, _+_, _*_, _/_, _%_, _^_, _<_, _≤_}
-use native.Mathlib.Nat.{div-add-mod'}
+use native.Mathlib.Nat.{div-add-mod', mod-eq-of-lt}
 use native.Mathlib.Omega.{arith}
 use lib.Arith.{lt-one}
 use lib.Bits.{bitAnd, and-block, and-mask}
 use lib.Dec.{lit<}
 use Rattle.digits.specs.Digits.{value, valueFrom, Below}
+use Rattle.digits.specs.Text.{ascii}
 use Rattle.words.specs.Bytes.{bytesOf}
-use Rattle.digit_words.proofs.Masks.{div-is, mod-is}
+use Rattle.digit_words.proofs.Masks.{div-is, mod-is, zeros, figured}
 
 -- one lane of 16 bits whose low byte a mask keeps
 lane : (a l b : ℕ) → l < 65536 → bitAnd (a * 65536 + l) (b * 65536 + 255) ≡ bitAnd a b * 65536 + l % 256
@@ -116,6 +118,10 @@ module _ (e0 e2 e4 e6 : ℕ) (h0 : e0 < 100) (h2 : e2 < 100) (h4 : e4 < 100) (h6
       (and-mask ((e6 * 100) * 65536 + (e4 * 100 + e6)) 16 ∙ mod-is (e6 * 100) (e4 * 100 + e6) 65536 refl (omega arith))
       (and-mask ((e2 * 100 + e4) * 65536 + (e0 * 100 + e2)) 16 ∙ mod-is (e2 * 100 + e4) (e0 * 100 + e2) 65536 refl (omega arith))
 
+in-word : (w : ℕ) → w ≤ 0x0909_0909_0909_0909 → w + zeros 8 < 2 ^ 64
+unfolding zeros
+in-word w h = omega arith
+
 -- what the code's last steps read off
 module _ {w p : ℕ} (P : Paired w) (ep : p ≡ bitAnd (w * 10 + w / 256) 0x00ff_00ff_00ff_00ff) where
   p-is : p ≡ pairs (P .e0) (P .e2) (P .e4) (P .e6)
@@ -136,3 +142,7 @@ module _ {w p : ℕ} (P : Paired w) (ep : p ≡ bitAnd (w * 10 + w / 256) 0x00ff
 
     pub number-is : (q % 4294967296 * 10000 + q / 4294967296 ≡ value 10 (bytesOf 8 w)) × (q % 4294967296 * 10000 + q / 4294967296 < 100000000)
     number-is = (rw (q-low, q-high) (sym (P .stands)), rw (q-low, q-high) (omega (arith, P .h0, P .h2, P .h4, P .h6)))
+
+-- the text of a word of digits
+pub text-of : (u w : ℕ) → w < 2 ^ 64 → (w + zeros 8) % 2 ^ 64 ≡ u → Below 10 (bytesOf 8 w) → bytesOf 8 u ≡ map ascii (bytesOf 8 w)
+text-of u w h e d = ap (bytesOf 8) (sym e ∙ mod-eq-of-lt (in-word w (pairs-of w h d .small))) ∙ figured 8 w d

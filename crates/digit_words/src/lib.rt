@@ -1,27 +1,28 @@
 // Eight decimal digits at a time in a word, the first in the lowest byte: whether a word of bytes is one of digits, and the number that they stand for.
 ghost use mathlib.Core.Path.{_≡_};
-ghost use mathlib.Core.List.{_++_};
+ghost use mathlib.Core.List.{_++_, map};
 ghost use Prim.Native.Nat.{_-_, _≤_, _<_};
 ghost use lib.ListN.{take, drop};
 ghost use Rattle.digits.specs.Digits.{value, Below};
+ghost use Rattle.digits.specs.Text.{ascii};
 ghost use Rattle.words.specs.Bytes.{bytesOf};
-ghost use Rattle.digit_words.specs.Words.{Figures};
 
-// No word of digits, and no number: the greatest of 64 bits.
+// No number: the greatest of 64 bits.
 pub const NONE: u64 = 0xffff_ffff_ffff_ffff;
 
-// The digits of eight bytes, or NONE where one is no digit.
+// The bytes of u less 48 each: their digits, where all are digits.
 pub fn figures(u: u64) -> u64
-    ensures { λ r. ⌜ ((r ≡ 0xffff_ffff_ffff_ffff → ⊥) → Figures u r) ⌝ }
+    ensures { λ r. ⌜ (Below 10 (bytesOf 8 r) → bytesOf 8 u ≡ map ascii (bytesOf 8 r)) ⌝ }
 {
-    if u & 0xf0f0_f0f0_f0f0_f0f0 != 0x3030_3030_3030_3030 {
-        return NONE;
-    }
-    let w = u - 0x3030_3030_3030_3030;
-    if (w + 0x0606_0606_0606_0606) & 0xf0f0_f0f0_f0f0_f0f0 != 0 {
-        return NONE;
-    }
-    w
+    std::num::wrapping_sub_u64(u, 0x3030_3030_3030_3030)
+}
+
+// 0 where each byte of w is a digit: with 6 more a byte from 10 to 15 reaches into its upper half.
+pub fn faults(w: u64) -> u64
+    ensures { λ r. ⌜ (r ≡ 0 → Below 10 (bytesOf 8 w)) ⌝ }
+{
+    let more = std::num::wrapping_add_u64(w, 0x0606_0606_0606_0606);
+    (w & 0xf0f0_f0f0_f0f0_f0f0) | (more & 0xf0f0_f0f0_f0f0_f0f0)
 }
 
 // The number of eight digits: in pairs, in fours, and all.

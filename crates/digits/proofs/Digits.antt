@@ -218,3 +218,9 @@ module _ (b : ℕ) (big : 1 < b) where
   pub unique : (n : ℕ) (ds : List ℕ) → Canonical b n ds → ds ≡ digits b n
   unique n [] c = absurd (not-suc-le-zero (c .some))
   unique n (d ∷ ds) c = sym (unique-cons d ds (c .each) (λ h. c .lead (suc-le-suc h))) ∙ ap (digits b) (c .stands)
+
+-- digits behind digits
+pub Below-append : (b : ℕ) (xs ys : List ℕ) → Below b xs → Below b ys → Below b (xs ++ ys)
+unfolding Below
+Below-append b [] ys p q = q
+Below-append b (x ∷ xs) ys p q = (p .0, Below-append b xs ys (p .1) q)

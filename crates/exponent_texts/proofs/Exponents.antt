@@ -7,15 +7,13 @@ use Prim.Native.Nat.{ℕ, zero, suc, _+_, _-_, _*_, _^_, _≤_, _<_}
 use native.Mathlib.Decide.{decLe}
 use native.Mathlib.Nat.{zero-mul, le-trans, mul-le-mul}
 use native.Mathlib.Omega.{arith}
-use borrow.Author.Tests.{lt-ltb, leb-true, leb-false}
+use borrow.Author.Tests.{leb-true, leb-false}
 use lib.Dec.{leb, lit≤}
 use lib.ListN.{length, getD, drop, length-append, length-drop, length-map, drop-of-length-le}
 use lib.Seq.{drop-cons}
-use Rattle.digits.specs.Digits.{value, Below}
-use Rattle.digits.specs.Text.{ascii}
+use Rattle.digits.specs.Digits.{value}
 use Rattle.digits.proofs.Last.{value-lt}
 use Rattle.radix.specs.Radix.{lower}
-use Rattle.radix.proofs.Table.{map-same}
 use Rattle.scientific.proofs.Tens as T
 use Rattle.reading.proofs.Place.{Misses}
 use Rattle.reading.proofs.Exponent.{Figure}

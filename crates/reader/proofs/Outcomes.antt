@@ -7,20 +7,23 @@ use Prim.Native.Nat.{ℕ, _≤_, _<_}
 use native.Mathlib.Nat.{lt-of-le-of-lt}
 use native.Mathlib.Omega.{arith}
 use borrow.Author.Tests.{eqb-true}
-use lib.Dec.{eqb, lit<}
+use lib.Dec.{eqb, lit<, lit≤}
 use lib.IntN.{ℤ}
 use lib.ListN.{length}
 use lib.Pow.{pow-mono}
 use Rattle.kinds.specs.Kinds.{known, inType, pattern}
 use Rattle.reading.specs.Form.{Form}
-use Rattle.reading.specs.Formats.{form, plain}
+use Rattle.radix.specs.Radix.{lower}
+use Rattle.reading.specs.Formats.{whole, form, plain}
 use Rattle.reading.proofs.Place.{one-place}
 use Rattle.reading.proofs.Faithful.{Faithful, faithful, plain-some}
 use Rattle.reading.proofs.Judged.{plain-accepted, accepted-plain, one-value, not-both, not-outside}
+use Rattle.whole_texts.specs.Wholes.{IsNumber}
 use Rattle.reader.specs.Answers.{Judges, Passes, Answers}
-use Rattle.outcomes.specs.Outcomes.{numberOf}
+use Rattle.outcomes.specs.Outcomes.{numberOf, ofValue}
 use Rattle.outcomes.specs.declared.Outcome.{Outcome}
 use Rattle.outcomes.specs.declared.Outcome.the-variants as outcome
+use Rattle.reader.proofs.Answers.{decimal-held}
 
 -- a known type has 8 to 64 bits
 pub known-bits : (bits : ℕ) → known bits ≡ true → (1 ≤ bits) × (bits ≤ 64)
@@ -50,6 +53,14 @@ module _ (sgn : Bool) (bits code : ℕ) (t : List ℕ) where
 -- the format by its code
 pub at-code : (sgn : Bool) (bits : ℕ) (t : List ℕ) (r : Outcome) (k code : ℕ) → code ≡ k → Judges (form sgn bits k) sgn bits t r → Judges (form sgn bits code) sgn bits t r
 at-code sgn bits t r k code e j = subst (λ (i : ℕ). Judges (form sgn bits i) sgn bits t r) (sym e) j
+
+-- the value of a decimal text is the answer to reading it
+pub short-answer : (sgn : Bool) (bits : ℕ) (t : List ℕ) {m : Bool} {v x : ℕ} → known bits ≡ true → 0 < length t → IsNumber sgn lower 10 t m v false → outcome.Done x ≡ ofValue sgn bits (whole m v)
+    → Answers sgn bits 0 t (outcome.Done x)
+unfolding form
+short-answer sgn bits t {x = x} k s N e =
+    let b = known-bits bits k in
+    passed sgn bits 0 t (outcome.Done x) k (lit≤ tt) s (decimal-held sgn bits t (b .0) (b .1) N refl e)
 
 -- ---- one outcome keeps the promise
 

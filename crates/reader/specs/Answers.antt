@@ -10,6 +10,7 @@ use Rattle.reading.specs.Formats.{form}
 use Rattle.reading.specs.Judged as judged
 use Rattle.outcomes.specs.declared.Outcome.{Outcome}
 use Rattle.outcomes.specs.declared.Outcome.the-variants as outcome
+use Rattle.reader.specs.declared.Quick.{Quick}
 
 -- What is answered of a text that is not empty, in a format.
 abbrev pub Judges : Form → Bool → ℕ → List ℕ → Outcome → Type 0
@@ -37,3 +38,7 @@ Answers sgn bits format t (outcome.Shape k) = Passes sgn bits format t (outcome.
 Answers sgn bits format t outcome.NotCanonical = Passes sgn bits format t outcome.NotCanonical
 Answers sgn bits format t outcome.Range = Passes sgn bits format t outcome.Range
 Answers sgn bits format t (outcome.Done v) = Passes sgn bits format t (outcome.Done v)
+
+-- Where it is done, the value is the answer to reading t, a decimal text.
+abbrev pub Told : Bool → ℕ → List ℕ → Quick → Type 0
+Told sgn bits t r = r .done ≡ true → Answers sgn bits 0 t (outcome.Done (r .value))

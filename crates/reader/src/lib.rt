@@ -1,26 +1,31 @@
 // The reader: plain texts back to values, of any type, in any of the seven formats. All new: the Rust's own parsing is not carried over.
 // One pass over the text, in constant memory.
+ghost use mathlib.Core.Bool.{true};
 ghost use mathlib.Core.Path.{_≡_};
 ghost use Prim.Native.Nat.{_-_, _/_, _^_, _≤_, _<_};
 ghost use lib.ListN.{length};
 ghost use Rattle.radix.specs.Radix.{digitByte};
-ghost use Rattle.reading.specs.Formats.{decimalForm, radixForm, exponentForm, form};
-ghost use Rattle.reader.specs.Answers.{Answers, Judges};
+ghost use Rattle.reading.specs.Formats.{whole, decimalForm, radixForm, exponentForm, form};
+ghost use Rattle.outcomes.specs.Outcomes.{ofValue};
+ghost use Rattle.outcomes.specs.declared.Outcome.the-variants.{Done};
+ghost use Rattle.reader.specs.Answers.{Answers, Judges, Told};
+use digit_runs::TENTH;
+use digit_words::NONE;
 use exponent_texts::find_exponent;
 use kinds::Kind;
 use outcomes::Outcome;
 use outcomes::of_magnitude;
 use outcomes::of_pattern;
 use whole_texts::Found;
-use whole_texts::find_decimal;
+use whole_texts::find_short;
 use whole_texts::find_whole;
 
-// A decimal text.
+// A decimal text, byte by byte.
 fn read_decimal(signed: bool, bits: u32, text: &[u8]) -> Outcome
     requires { ⌜ (1 ≤ bits) × (bits ≤ 64) × (0 < length (now text)) ⌝ }
     ensures { λ r. ⌜ Judges (decimalForm signed) signed bits (now (text .entry)) r ⌝ }
 {
-    match find_decimal(text, signed) {
+    match find_whole(text, signed, 10, TENTH, b'a') {
         Found::Wrong(k) => Outcome::Shape(k),
         Found::Broken => Outcome::NotCanonical,
         Found::Number { minus, value, over } => {
@@ -101,4 +106,70 @@ pub fn read(kind: Kind, format: u32, text: &[u8]) -> Outcome
         return judge(kind.signed, bits, format, text);
     }
     Outcome::TypeRefused
+}
+
+// The value that a text stands for, where it was found at once.
+pub struct Quick {
+    pub done: bool,
+    pub value: u64,
+}
+
+// The value of an outcome, where it has one.
+fn value_only(outcome: Outcome) -> Quick
+    ensures { λ r. ⌜ (r .done ≡ true → outcome ≡ Done (r .value)) ⌝ }
+{
+    if let Outcome::Done(value) = outcome {
+        return Quick { done: true, value };
+    }
+    Quick {
+        done: false,
+        value: 0,
+    }
+}
+
+// The value of a magnitude, where the type has it. No text of 0 has a minus.
+fn of_short(signed: bool, bits: u32, minus: bool, n: u64) -> Quick
+    requires { ⌜ (1 ≤ bits) × (bits ≤ 64) × ((minus ≡ true → signed ≡ true)) ⌝ }
+    ensures { λ r. ⌜ (r .done ≡ true → ((minus ≡ true → n ≡ 0 → ⊥)) × (Done (r .value) ≡ ofValue signed bits (whole minus n))) ⌝ }
+{
+    if minus {
+        if n == 0 {
+            return Quick {
+                done: false,
+                value: 0,
+            };
+        }
+    }
+    value_only(of_magnitude(signed, bits, minus, n))
+}
+
+// A decimal text of up to 20 digits at once. Where that gives no value, `read` says why. The widest types come first, where less is to be tested.
+pub fn read_short(kind: Kind, text: &[u8]) -> Quick
+    ensures { λ r. ⌜ Told (kind .signed) (kind .bits) (now (text .entry)) r ⌝ }
+{
+    if text.len() == 0 {
+        return Quick {
+            done: false,
+            value: 0,
+        };
+    }
+    let found = find_short(text, kind.signed);
+    let value = found.value;
+    if value == NONE {
+        return Quick {
+            done: false,
+            value: 0,
+        };
+    }
+    let bits = kind.bits;
+    if bits == 64 {
+        return of_short(kind.signed, 64, found.minus, value);
+    }
+    if kinds::is_known(bits) {
+        return of_short(kind.signed, bits, found.minus, value);
+    }
+    Quick {
+        done: false,
+        value: 0,
+    }
 }

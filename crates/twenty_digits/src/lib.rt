@@ -1,12 +1,13 @@
 // Texts of 1 to 20 decimal digits, eight bytes at a time: no loop, and no branch on the exact length.
-// Whatever is no such text, or has too large a number, is NONE: a reader byte by byte knows what is wrong with it.
+// Whatever is no such text, has a zero in front or too large a number, is NONE: a reader byte by byte knows what is wrong with it.
 ghost use mathlib.Core.List.{[], _∷_, _++_};
 ghost use mathlib.Core.Path.{_≡_};
 ghost use Prim.Native.Nat.{_+_, _-_, _≤_, _<_};
 ghost use lib.ListN.{length, take};
 ghost use Rattle.digits.specs.Digits.{value};
-ghost use Rattle.twenty_digits.specs.Numbers.{Number};
+ghost use Rattle.digits.specs.Text.{decimal};
 use digit_words::NONE;
+use digit_words::faults;
 use digit_words::figures;
 use digit_words::number;
 use digit_words::number_around;
@@ -18,10 +19,7 @@ use words::load8;
 fn digit(byte: u8) -> u64
     ensures { λ r. ⌜ (r < 10 → byte ≡ 48 + r) ⌝ }
 {
-    if byte < 48 {
-        return 10;
-    }
-    (byte - 48) as u64
+    std::num::wrapping_sub_u8(byte, 48) as u64
 }
 
 // The number of the first two digits without the last k of them, and the third behind.
@@ -36,7 +34,7 @@ fn three(a: u64, b: u64, c: u64, k: usize) -> u64
 // 1 to 3 digits: the first, the middle and the last byte.
 fn up_to_three(text: &[u8]) -> u64
     requires { ⌜ (0 < length (now text)) × (length (now text) < 4) ⌝ }
-    ensures { λ r. ⌜ ((r ≡ 0xffff_ffff_ffff_ffff → ⊥) → Number (now (text .entry)) r) ⌝ }
+    ensures { λ r. ⌜ ((r ≡ 0xffff_ffff_ffff_ffff → ⊥) → now (text .entry) ≡ decimal r) ⌝ }
 {
     let n = text.len();
     let a = digit(text[0]);
@@ -51,17 +49,25 @@ fn up_to_three(text: &[u8]) -> u64
     if 9 < c {
         return NONE;
     }
+    if a == 0 {
+        if 1 < n {
+            return NONE;
+        }
+    }
     three(a, b, c, 3 - n)
 }
 
 // 4 to 7 digits: the first four and the last four bytes.
 fn up_to_seven(text: &[u8]) -> u64
     requires { ⌜ (4 ≤ length (now text)) × (length (now text) < 8) ⌝ }
-    ensures { λ r. ⌜ ((r ≡ 0xffff_ffff_ffff_ffff → ⊥) → Number (now (text .entry)) r) ⌝ }
+    ensures { λ r. ⌜ ((r ≡ 0xffff_ffff_ffff_ffff → ⊥) → now (text .entry) ≡ decimal r) ⌝ }
 {
     let n = text.len();
     let w = figures(load4(text, 0) + load4(text, n - 4) * 4294967296);
-    if w == NONE {
+    if faults(w) != 0 {
+        return NONE;
+    }
+    if w % 256 == 0 {
         return NONE;
     }
     number_around(w, 8 - n)
@@ -70,10 +76,13 @@ fn up_to_seven(text: &[u8]) -> u64
 // 8 digits.
 fn eight(text: &[u8]) -> u64
     requires { ⌜ length (now text) ≡ 8 ⌝ }
-    ensures { λ r. ⌜ ((r ≡ 0xffff_ffff_ffff_ffff → ⊥) → Number (now (text .entry)) r) ⌝ }
+    ensures { λ r. ⌜ ((r ≡ 0xffff_ffff_ffff_ffff → ⊥) → now (text .entry) ≡ decimal r) ⌝ }
 {
     let w = figures(load8(text, 0));
-    if w == NONE {
+    if faults(w) != 0 {
+        return NONE;
+    }
+    if w % 256 == 0 {
         return NONE;
     }
     number(w)
@@ -82,15 +91,15 @@ fn eight(text: &[u8]) -> u64
 // 9 to 16 digits: the first eight bytes, of which some are left out, and the last eight.
 fn up_to_sixteen(text: &[u8]) -> u64
     requires { ⌜ (8 < length (now text)) × (length (now text) ≤ 16) ⌝ }
-    ensures { λ r. ⌜ ((r ≡ 0xffff_ffff_ffff_ffff → ⊥) → Number (now (text .entry)) r) ⌝ }
+    ensures { λ r. ⌜ ((r ≡ 0xffff_ffff_ffff_ffff → ⊥) → now (text .entry) ≡ decimal r) ⌝ }
 {
     let n = text.len();
     let w = figures(load8(text, n - 8));
-    if w == NONE {
+    let x = figures(load8(text, 0));
+    if faults(w) | faults(x) != 0 {
         return NONE;
     }
-    let x = figures(load8(text, 0));
-    if x == NONE {
+    if x % 256 == 0 {
         return NONE;
     }
     number_before(x, 16 - n) * 100000000 + number(w)
@@ -99,19 +108,16 @@ fn up_to_sixteen(text: &[u8]) -> u64
 // 17 to 20 digits: eight bytes three times. From 1844 times 10 to the 16 on a number may be over 64 bits.
 fn up_to_twenty(text: &[u8]) -> u64
     requires { ⌜ (16 < length (now text)) × (length (now text) ≤ 20) ⌝ }
-    ensures { λ r. ⌜ ((r ≡ 0xffff_ffff_ffff_ffff → ⊥) → Number (now (text .entry)) r) ⌝ }
+    ensures { λ r. ⌜ ((r ≡ 0xffff_ffff_ffff_ffff → ⊥) → now (text .entry) ≡ decimal r) ⌝ }
 {
     let n = text.len();
     let w = figures(load8(text, n - 8));
-    if w == NONE {
-        return NONE;
-    }
     let m = figures(load8(text, n - 16));
-    if m == NONE {
+    let x = figures(load8(text, 0));
+    if faults(w) | (faults(m) | faults(x)) != 0 {
         return NONE;
     }
-    let x = figures(load8(text, 0));
-    if x == NONE {
+    if x % 256 == 0 {
         return NONE;
     }
     let top = number_before(x, 24 - n);
@@ -121,9 +127,9 @@ fn up_to_twenty(text: &[u8]) -> u64
     top * 10000000000000000 + (number(m) * 100000000 + number(w))
 }
 
-// The number of a text of digits, or NONE.
+// The number whose decimal text this is, or NONE.
 pub fn number_of(text: &[u8]) -> u64
-    ensures { λ r. ⌜ ((r ≡ 0xffff_ffff_ffff_ffff → ⊥) → (0 < length (now (text .entry))) × Number (now (text .entry)) r) ⌝ }
+    ensures { λ r. ⌜ ((r ≡ 0xffff_ffff_ffff_ffff → ⊥) → now (text .entry) ≡ decimal r) ⌝ }
 {
     let n = text.len();
     if 8 < n {

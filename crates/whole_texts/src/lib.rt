@@ -1,13 +1,12 @@
 // Texts of digits behind a minus or none: what each is found to be.
+ghost use mathlib.Core.Bool.{true, false};
 ghost use mathlib.Core.Path.{_≡_};
 ghost use Prim.Native.Nat.{_-_, _/_, _^_, _≤_, _<_};
 ghost use lib.ListN.{length};
 ghost use Rattle.radix.specs.Radix.{digitByte, lower};
-ghost use Rattle.whole_texts.specs.Wholes.{FoundOf};
-use digit_runs::TENTH;
+ghost use Rattle.whole_texts.specs.Wholes.{IsNumber, FoundOf};
 use digit_runs::front;
 use digit_runs::scan;
-use digit_words::NONE;
 use twenty_digits::number_of;
 
 // What a text of digits is found to be: of another shape from a place on, not canonical, or a number behind a minus or none.
@@ -42,24 +41,21 @@ pub fn find_whole(text: &[u8], may: bool, base: u64, top: u64, letter: u8) -> Fo
     }
 }
 
-// A decimal text: eight digits at a time, and byte by byte where that finds no number.
-pub fn find_decimal(text: &[u8], may: bool) -> Found
+// A minus or none and the number behind it; NONE where it is not known.
+pub struct Magnitude {
+    pub minus: bool,
+    pub value: u64,
+}
+
+// The magnitude of a decimal text of 1 to 20 digits, eight digits at a time; 0 behind a minus is left to the caller to refuse.
+// What is wrong with any other text is found byte by byte.
+pub fn find_short(text: &[u8], may: bool) -> Magnitude
     requires { ⌜ 0 < length (now text) ⌝ }
-    ensures { λ r. ⌜ FoundOf may lower 10 (now (text .entry)) r ⌝ }
+    ensures { λ r. ⌜ ((r .minus ≡ true → may ≡ true)) × ((r .value ≡ 0xffff_ffff_ffff_ffff → ⊥) → (r .minus ≡ true → r .value ≡ 0 → ⊥) → IsNumber may lower 10 (now (text .entry)) (r .minus) (r .value) false) ⌝ }
 {
     let start = front(text, may);
-    let value = number_of(&text[start..]);
-    if value == NONE {
-        return find_whole(text, may, 10, TENTH, b'a');
-    }
-    if text[start] == 48 {
-        if 1 < text.len() {
-            return Found::Broken;
-        }
-    }
-    Found::Number {
+    Magnitude {
         minus: 0 < start,
-        value,
-        over: false,
+        value: number_of(&text[start..]),
     }
 }

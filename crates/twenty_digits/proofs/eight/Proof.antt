@@ -1,6 +1,6 @@
 -- `twenty_digits::eight` meets its contract. Assumes nothing.
 use mathlib.Core.Path.{refl}
-use Rattle.twenty_digits.proofs.Numbers.{eight-number}
+use Rattle.twenty_digits.proofs.Numbers.{faultless, eight-number}
 use borrow.Author.Needs.{needs}
 use Rattle.twenty_digits.proofs.eight.Statement.{statement}
 use Rattle.twenty_digits.proofs.eight.Tie as tie
@@ -11,17 +11,33 @@ load8-requires c κs = search needs
 figures-requires : tie.Need-figures-requires
 figures-requires c κs = search needs
 
+faults-requires : tie.Need-faults-requires
+faults-requires c κs = search needs
+
 returns : tie.Need-returns
 returns c = λ z. absurd (z refl)
 
-number-requires : tie.Need-number-requires
-number-requires c κs = c .before .figures .ensures (c .if1 .left) .each
-
 returns-2 : tie.Need-returns-2
-returns-2 c = λ z.
-    let tested = c .before .before in
-    let s = tested .before .before .before in
-    eight-number (s .args .text .now) (tested .before .load8 .result) (tested .figures .result) _ (s .pre) (tested .before .load8 .ensures) (tested .figures .ensures (c .before .if1 .left)) (c .number .ensures .0)
+returns-2 c = λ z. absurd (z refl)
+
+number-requires : tie.Need-number-requires
+number-requires c κs = c .before .before .faults .ensures (c .before .if1 .left)
+
+returns-3 : tie.Need-returns-3
+returns-3 c = λ z.
+    let tested = c .before .before .before in
+    let loaded = tested .before .before in
+    let s = loaded .before .before in
+    eight-number (s .args .text .now) (loaded .load8 .result) (tested .before .figures .result) _ (s .pre) (loaded .load8 .ensures) (faultless (tested .faults .ensures (c .before .before .if1 .left)) (tested .before .figures .ensures)) (c .number .ensures .0) (c .before .if2 .left)
 
 pub eight-spec : {M : Type 1} → statement M
-eight-spec = tie.close (tie.spec load8-requires figures-requires returns number-requires returns-2)
+eight-spec =
+    tie.close
+    (tie.spec
+    load8-requires
+    figures-requires
+    faults-requires
+    returns
+    returns-2
+    number-requires
+    returns-3)

@@ -1,6 +1,5 @@
 -- `twenty_digits::number_of` meets its contract. Assumes nothing.
 use mathlib.Core.Path.{refl}
-use native.Mathlib.Omega.{arith}
 use borrow.Author.Needs.{needs}
 use Rattle.twenty_digits.proofs.number_of.Statement.{statement}
 use Rattle.twenty_digits.proofs.number_of.Tie as tie
@@ -9,13 +8,13 @@ up-to-sixteen-requires : tie.Need-up-to-sixteen-requires
 up-to-sixteen-requires c κs = search needs
 
 returns : tie.Need-returns
-returns c = λ z. (omega arith, c .up-to-sixteen .ensures z)
+returns c = c .up-to-sixteen .ensures
 
 up-to-twenty-requires : tie.Need-up-to-twenty-requires
 up-to-twenty-requires c κs = search needs
 
 returns-2 : tie.Need-returns-2
-returns-2 c = λ z. (omega arith, c .up-to-twenty .ensures z)
+returns-2 c = c .up-to-twenty .ensures
 
 returns-3 : tie.Need-returns-3
 returns-3 c = λ z. absurd (z refl)
@@ -24,13 +23,13 @@ eight-requires : tie.Need-eight-requires
 eight-requires c κs = search needs
 
 returns-4 : tie.Need-returns-4
-returns-4 c = λ z. (omega arith, c .eight .ensures z)
+returns-4 c = c .eight .ensures
 
 up-to-seven-requires : tie.Need-up-to-seven-requires
 up-to-seven-requires c κs = search needs
 
 returns-5 : tie.Need-returns-5
-returns-5 c = λ z. (omega arith, c .up-to-seven .ensures z)
+returns-5 c = c .up-to-seven .ensures
 
 returns-6 : tie.Need-returns-6
 returns-6 c = λ z. absurd (z refl)
@@ -39,7 +38,7 @@ up-to-three-requires : tie.Need-up-to-three-requires
 up-to-three-requires c κs = search needs
 
 returns-7 : tie.Need-returns-7
-returns-7 c = λ z. (omega arith, c .up-to-three .ensures z)
+returns-7 c = c .up-to-three .ensures
 
 pub number-of-spec : {M : Type 1} → statement M
 number-of-spec =

@@ -1,4 +1,5 @@
 -- `twenty_digits::up_to_three` meets its contract. Assumes nothing.
+use mathlib.Core.Logic.{⊎-elim}
 use mathlib.Core.Path.{refl}
 use native.Mathlib.Omega.{arith}
 use Rattle.twenty_digits.proofs.Numbers.{three-number}
@@ -36,20 +37,25 @@ returns-2 c = λ z. absurd (z refl)
 returns-3 : tie.Need-returns-3
 returns-3 c = λ z. absurd (z refl)
 
+returns-4 : tie.Need-returns-4
+returns-4 c = λ z. absurd (z refl)
+
 sub-three : tie.Need-sub-three
 sub-three c = search needs
 
 three-requires : tie.Need-three-requires
 three-requires c κs = search needs
 
-returns-4 : tie.Need-returns-4
-returns-4 c = λ z.
-    let third = c .before .before .before .before in
+returns-5 : tie.Need-returns-5
+returns-5 c = λ z.
+    let last = c .before .before in
+    let third = last .before .before .before in
     let second = third .before .before in
     let first = second .before .before in
     let s = first .before .before .before in
     three-number (s .args .text .now) (first .digit .result) (second .digit2 .result) (third .digit3 .result) _ (s .pre .0) (s .pre .1) (first .digit .ensures) (second .digit2 .ensures) (third .digit3 .ensures)
-    (omega (arith, c .before .before .before .if1 .left)) (omega (arith, c .before .before .if2 .left)) (omega (arith, c .before .if3 .left)) (c .three .ensures)
+    (omega (arith, last .before .before .if1 .left)) (omega (arith, last .before .if2 .left)) (omega (arith, last .if3 .left)) (c .three .ensures)
+    (⊎-elim (λ w e. w .1 .left) (λ w e. absurd (w .left e)) (c .before .if4 .came))
 
 pub up-to-three-spec : {M : Type 1} → statement M
 up-to-three-spec =
@@ -65,6 +71,7 @@ up-to-three-spec =
     returns
     returns-2
     returns-3
+    returns-4
     sub-three
     three-requires
-    returns-4)
+    returns-5)

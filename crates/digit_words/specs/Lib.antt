@@ -1,2 +1,0 @@
--- What is said of words of eight bytes that are decimal digits.
-pub mod Words

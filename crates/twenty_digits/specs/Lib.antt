@@ -1,2 +1,0 @@
--- What a text of digits stands for.
-pub mod Numbers
