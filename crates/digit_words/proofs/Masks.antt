@@ -11,7 +11,7 @@ use lib.Dec.{lit<}
 use Rattle.digits.specs.Digits.{Below}
 use Rattle.digits.specs.Text.{ascii}
 use Rattle.words.specs.Bytes.{bytesOf}
-use Rattle.words.proofs.Joined.{bytes-cons}
+use Rattle.words.proofs.Bytes.{bytes-cons}
 
 pub div-is : {x : ℕ} (q r m : ℕ) → x ≡ q * m + r → r < m → x / m ≡ q
 div-is q r m e h = ap (λ (x : ℕ). x / m) e ∙ digits-div q h
@@ -101,7 +101,7 @@ pub figured : (k w : ℕ) → Below 10 (bytesOf k w) → bytesOf k (w + zeros k)
 unfolding Below bytesOf
 figured zero w d = refl
 figured (suc k) w d =
-    ap (bytesOf (suc k)) (raised k w) ∙ bytes-cons k (48 + w % 256) (w / 256 + zeros k) (omega (arith, d .0)) ∙ ap (λ (l : List ℕ). (48 + w % 256) ∷ l) (figured k (w / 256) (d .1))
+    ap (bytesOf (suc k)) (raised k w) ∙ bytes-cons k (w / 256 + zeros k) (48 + w % 256) (omega (arith, d .0)) ∙ ap (λ (l : List ℕ). (48 + w % 256) ∷ l) (figured k (w / 256) (d .1))
 
 -- ---- words of eight bytes
 

@@ -3,16 +3,16 @@
 use mathlib.Core.List.{List, [], _∷_, _++_, append-assoc}
 use mathlib.Core.Path.{_≡_, refl, sym, ap, ap₂, _∙_, subst}
 use Prim.Native.Nat.{ℕ, zero, suc, _+_, _*_, _-_, _/_, _%_, _^_, _<_, _≤_}
-use native.Mathlib.Nat.{add-comm, suc-mul, pow-suc, mod-lt}
+use native.Mathlib.Nat.{add-comm, mod-lt}
 use native.Mathlib.Omega.{arith}
 use lib.Dec.{lit<}
 use lib.ListN.{take, drop, replicate}
-use lib.Pow.{pow-add}
 use lib.Seq.{take-take}
 use Rattle.digits.specs.Digits.{value, valueFrom, Below}
 use Rattle.digits.proofs.Digits.{Below-append}
 use Rattle.words.specs.Bytes.{bytesOf}
-use Rattle.words.proofs.Joined.{bytes-join, bytes-take, bytes-drop, bytes-low, bytes-shifted}
+use Rattle.words.proofs.Bytes.{bytes-mod, bytes-join}
+use Rattle.words.proofs.Loads.{bytes-take, bytes-drop, bytes-shifted}
 
 -- ---- digits left out, put in front, put together
 
@@ -48,27 +48,23 @@ module _ (x k : ℕ) (ds : List ℕ) (e : bytesOf 8 x ≡ replicate k 0 ++ ds) w
 
 -- ---- the shifts of the code
 
-pow-bytes : (k : ℕ) → 2 ^ (k * 8) ≡ 256 ^ k
-pow-bytes zero = refl
-pow-bytes (suc k) = ap (λ (y : ℕ). 2 ^ y) (suc-mul k 8) ∙ pow-add 2 (k * 8) 8 ∙ ap (λ (y : ℕ). y * 256) (pow-bytes k) ∙ sym (pow-suc 256 k)
-
 -- n bytes, k of them shifted out
 shifted : (n k w : ℕ) → k ≤ n → bytesOf n (w * 2 ^ (k * 8)) ≡ replicate k 0 ++ take (n - k) (bytesOf n w)
 shifted n k w h =
     let e : k + (n - k) ≡ n = omega arith in
     let f : n - k + k ≡ n = omega arith in
-    ap₂ bytesOf (sym e) (ap (λ (y : ℕ). w * y) (pow-bytes k)) ∙ bytes-shifted k (n - k) w
+    ap (λ (i : ℕ). bytesOf i (w * 2 ^ (k * 8))) (sym e) ∙ bytes-shifted k (n - k) w
     ∙ ap (λ (l : List ℕ). replicate k 0 ++ l) (sym (bytes-take (n - k) k w) ∙ ap (λ (i : ℕ). take (n - k) (bytesOf i w)) f)
 
 -- the lowest n bytes of a shifted word of n + m
-pub low : (n m k w : ℕ) → k ≤ n → bytesOf n (w * 2 ^ (k * 8) % 256 ^ (n + m) % 256 ^ n) ≡ replicate k 0 ++ take (n - k) (bytesOf n w)
+pub low : (n m k w : ℕ) → k ≤ n → bytesOf n (w * 2 ^ (k * 8) % 2 ^ ((n + m) * 8) % 2 ^ (n * 8)) ≡ replicate k 0 ++ take (n - k) (bytesOf n w)
 low n m k w h =
     let x = w * 2 ^ (k * 8) in
-    bytes-low n (x % 256 ^ (n + m)) ∙ sym (bytes-take n m (x % 256 ^ (n + m))) ∙ ap (take n) (bytes-low (n + m) x) ∙ bytes-take n m x ∙ shifted n k w h
+    bytes-mod n (x % 2 ^ ((n + m) * 8)) ∙ sym (bytes-take n m (x % 2 ^ ((n + m) * 8))) ∙ ap (take n) (bytes-mod (n + m) x) ∙ bytes-take n m x ∙ shifted n k w h
 
 module _ (w k : ℕ) where
   pub before : k < 8 → bytesOf 8 (w * 2 ^ (k * 8) % 2 ^ 64) ≡ replicate k 0 ++ take (8 - k) (bytesOf 8 w)
-  before h = bytes-low 8 (w * 2 ^ (k * 8)) ∙ shifted 8 k w (omega arith)
+  before h = bytes-mod 8 (w * 2 ^ (k * 8)) ∙ shifted 8 k w (omega arith)
 
   first-four : k ≤ 4 → bytesOf 4 (w * 2 ^ (k * 8) % 2 ^ 64 % 2 ^ 32) ≡ replicate k 0 ++ take (4 - k) (bytesOf 8 w)
   first-four h =
@@ -79,7 +75,7 @@ module _ (w k : ℕ) where
   around h =
       let x = w * 2 ^ (k * 8) % 2 ^ 64 % 2 ^ 32 in
       let e : x + w / 2 ^ 32 * 2 ^ 32 ≡ w / 2 ^ 32 * 2 ^ 32 + x = add-comm x (w / 2 ^ 32 * 2 ^ 32) in
-      ap (bytesOf 8) e ∙ bytes-join 4 4 x (w / 2 ^ 32) (mod-lt (w * 2 ^ (k * 8) % 2 ^ 64) (lit< tt)) ∙ ap₂ (λ (a b : List ℕ). a ++ b) (first-four h) (sym (bytes-drop 4 4 w))
+      ap (bytesOf 8) e ∙ bytes-join 4 4 (w / 2 ^ 32) (mod-lt (w * 2 ^ (k * 8) % 2 ^ 64) (lit< tt)) ∙ ap₂ (λ (a b : List ℕ). a ++ b) (first-four h) (sym (bytes-drop 4 4 w))
       ∙ append-assoc (replicate k 0) (take (4 - k) (bytesOf 8 w)) (drop 4 (bytesOf 8 w))
 
   pub around-below : Below 10 (bytesOf 8 w) → Below 10 (take (4 - k) (bytesOf 8 w) ++ drop 4 (bytesOf 8 w))

@@ -13,7 +13,7 @@ use Rattle.digits.specs.Text.{ascii, text, decimal}
 use Rattle.digits.proofs.Digits.{Below-append, valueFrom-append, unique}
 use Rattle.digits.proofs.Last.{valueFrom-is}
 use Rattle.words.specs.Bytes.{bytesOf}
-use Rattle.words.proofs.Joined.{bytes-cons, bytes-join}
+use Rattle.words.proofs.Bytes.{bytes-cons, bytes-join}
 use Rattle.digit_words.proofs.Shifts.{Below-take, value-zeros, low, around-below}
 
 -- l is a text of digits, and v the number that they stand for
@@ -104,7 +104,7 @@ two-bytes : (a b : ℕ) → a < 10 → b < 10 → bytesOf 2 (a + b * 256) ≡ a 
 unfolding bytesOf
 two-bytes a b ha hb =
     let e : a + b * 256 ≡ (0 * 256 + b) * 256 + a = omega arith in
-    ap (bytesOf 2) e ∙ bytes-cons 1 a (0 * 256 + b) (omega arith) ∙ ap (λ (l : List ℕ). a ∷ l) (bytes-cons 0 b 0 (omega arith))
+    ap (bytesOf 2) e ∙ bytes-cons 1 (0 * 256 + b) a (omega arith) ∙ ap (λ (l : List ℕ). a ∷ l) (bytes-cons 0 0 b (omega arith))
 
 read-two : (w c : ℕ) → w < 65536 → w % 256 * 100 + w / 256 * 10 + c ≡ value 10 (bytesOf 2 w ++ (c ∷ []))
 unfolding bytesOf value valueFrom
@@ -161,7 +161,7 @@ seven-number l lo hi w v some few el hl eh F h f = whole (record {
     both : bytesOf 8 (lo + hi * 4294967296) ≡ take 4 l ++ take 4 (drop (length l - 4) l)
     both =
         let e : lo + hi * 4294967296 ≡ hi * 4294967296 + lo = omega arith in
-        ap (bytesOf 8) e ∙ bytes-join 4 4 lo hi hl ∙ ap₂ (λ (x y : List ℕ). x ++ y) el eh
+        ap (bytesOf 8) e ∙ bytes-join 4 4 hi hl ∙ ap₂ (λ (x y : List ℕ). x ++ y) el eh
 
     first : getD l 0 0 ≡ 48 + w % 256
     first =

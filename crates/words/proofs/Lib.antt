@@ -2,4 +2,4 @@
 pub mod Bytes
 pub mod Stores
 pub mod Zeros
-pub mod Joined
+pub mod Loads

@@ -1,5 +1,5 @@
 -- `words::load4` meets its contract: four bytes side by side. Assumes nothing.
-use Rattle.words.proofs.Joined.{load-four}
+use Rattle.words.proofs.Loads.{load-four}
 use borrow.Author.Needs.{needs}
 use Rattle.words.proofs.load4.Statement.{statement}
 use Rattle.words.proofs.load4.Tie as tie

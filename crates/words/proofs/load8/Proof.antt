@@ -1,5 +1,5 @@
 -- `words::load8` meets its contract: two words of four. Assumes nothing.
-use Rattle.words.proofs.Joined.{load-eight}
+use Rattle.words.proofs.Loads.{load-eight}
 use borrow.Author.Needs.{needs}
 use Rattle.words.proofs.load8.Statement.{statement}
 use Rattle.words.proofs.load8.Tie as tie
