@@ -88,20 +88,12 @@ fn fixed(n: u64, exp: usize, fmt_prec: usize) -> Scaled
     }
 }
 
-// Without precision: any and all trailing zeros are dropped, four at a time, then two, then one. Most numbers have none.
+// Without precision: any and all trailing zeros are dropped, four at a time, then two, then one.
 fn short(n: u64, exp: usize) -> Scaled
     requires { ⌜ exp ≡ exponentOf n ⌝ }
     ensures { λ r. ⌜ Scales none n r ⌝ }
 {
     if n < 10 {
-        return Scaled {
-            coef: n,
-            coef_prec: exp,
-            more_prec: 0,
-            exp,
-        };
-    }
-    if n % 10 != 0 {
         return Scaled {
             coef: n,
             coef_prec: exp,
@@ -131,14 +123,29 @@ fn short(n: u64, exp: usize) -> Scaled
     }
 }
 
+// The coefficient and the exponent of n without precision. Most numbers have no trailing zero: they are told first.
+pub fn in_full(n: u64) -> Scaled
+    ensures { λ r. ⌜ Scales none n r ⌝ }
+{
+    let exp = digits::digit_count(n) - 1;
+    if n % 10 != 0 {
+        return Scaled {
+            coef: n,
+            coef_prec: exp,
+            more_prec: 0,
+            exp,
+        };
+    }
+    short(n, exp)
+}
+
 // The coefficient and the exponent of n.
 pub fn scale(n: u64, precision: Precision) -> Scaled
     ensures { λ r. ⌜ Scales (precisionOf precision) n r ⌝ }
 {
-    let exp = digits::digit_count(n) - 1;
     match precision {
-        Precision::None => short(n, exp),
-        Precision::Digits(fmt_prec) => fixed(n, exp, fmt_prec as usize),
+        Precision::None => in_full(n),
+        Precision::Digits(fmt_prec) => { fixed(n, digits::digit_count(n) - 1, fmt_prec as usize) }
     }
 }
 

@@ -2,15 +2,18 @@
 // Carries over pad_integral and pad_formatted_parts of fmt/mod.rs, where they ask for the digits.
 ghost use mathlib.Core.Path.{_≡_};
 ghost use mathlib.Core.List.{List};
+ghost use mathlib.Core.Option.{none};
 ghost use Prim.Native.Nat.{ℕ, _-_, _≤_};
 ghost use lib.ListN.{length};
 ghost use Rattle.buffer.specs.AtEnd.{ended};
-ghost use Rattle.exponent.specs.Coefficient.{precisionOf};
+ghost use Rattle.exponent.specs.Coefficient.{precisionOf, Sized, scaledText};
+ghost use Rattle.scientific.specs.Sci.{sci};
 ghost use Rattle.scientific.specs.Layout.{expText};
 ghost use Rattle.writing.specs.Text.{letterOf, framed, bare, plain};
 ghost use Rattle.writing.specs.Promise.{keptAnswer, exponentAnswer, Writes, Places};
 ghost use Rattle.framing.specs.Laid.{Laid};
 use exponent::Precision;
+use exponent::Scaled;
 use exponent::Shown;
 use padding::Pad;
 use writing::Options;
@@ -118,7 +121,36 @@ fn letter_of(format: u32) -> u8
     b'E'
 }
 
-// The exponent form with nothing around it but a minus: straight into out, with no scratch.
+// What was scaled, with nothing around it but a minus: its length, and in out where it has room. No scratch.
+fn write_scaled(format: u32, scaled: Scaled, negative: bool, out: &mut [u8]) -> usize
+    requires { ⌜ Sized scaled ⌝ }
+    ensures { λ r. ⌜ Places (bare negative (scaledText (letterOf format) scaled)) (now (out .entry)) r (now (out .exit)) ⌝ }
+{
+    let size = scaled.size();
+    if negative {
+        let need = size + 1;
+        if out.len() < need {
+            return need;
+        }
+        scaled.write_at(letter_of(format), out, 1);
+        out[0] = b'-';
+        return need;
+    }
+    if out.len() < size {
+        return size;
+    }
+    scaled.write_at(letter_of(format), out, 0);
+    size
+}
+
+// The exponent form without precision, with nothing around it but a minus. No magnitude of 64 bits has an exponent of three digits: there is no refusal but NO_ROOM.
+pub fn write_bare_in_full(format: u32, n: u64, negative: bool, out: &mut [u8]) -> usize
+    ensures { λ r. ⌜ (sci none n .expo ≤ 99) × Places (bare negative (expText (letterOf format) none n)) (now (out .entry)) r (now (out .exit)) ⌝ }
+{
+    write_scaled(format, exponent::in_full(n), negative, out)
+}
+
+// The exponent form with nothing around it but a minus.
 pub fn write_bare_exponent(
     format: u32,
     n: u64,
@@ -132,21 +164,8 @@ pub fn write_bare_exponent(
     if 99 < scaled.exp {
         return Written::ExponentRefused;
     }
-    let size = scaled.size();
-    if negative {
-        let need = size + 1;
-        if out.len() < need {
-            return Written::NoRoom(need);
-        }
-        scaled.write_at(letter_of(format), out, 1);
-        out[0] = b'-';
-        return Written::Done(need);
-    }
-    if out.len() < size {
-        return Written::NoRoom(size);
-    }
-    scaled.write_at(letter_of(format), out, 0);
-    Written::Done(size)
+    let room = out.len();
+    writing::settle(write_scaled(format, scaled, negative, out), room)
 }
 
 // The exponent form with what the options put around it: three parts over a scratch of 24 bytes.

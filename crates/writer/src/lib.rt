@@ -129,8 +129,10 @@ pub fn write_short(kind: Kind, value: u64, format: u32, out: &mut [u8]) -> Writt
     if 6 < format {
         return Written::OptionsRefused;
     }
-    let precision = Precision::None;
-    write_exponent_plainly(kind.signed, value, format, precision, out)
+    let split = kinds::split_pattern(kind.signed, value);
+    let room = out.len();
+    let need = framing::write_bare_in_full(format, split.magnitude, split.negative, out);
+    writing::settle(need, room)
 }
 
 // By type, the value by value: type and value need no check.

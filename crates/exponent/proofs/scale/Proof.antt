@@ -5,42 +5,42 @@ use Rattle.scientific.proofs.Tens as T
 use Rattle.exponent.proofs.scale.Statement.{statement}
 use Rattle.exponent.proofs.scale.Tie as tie
 
-digit-count-requires : tie.Need-digit-count-requires
-digit-count-requires c κs = search needs
-
-sub-exp : tie.Need-sub-exp
-sub-exp c = omega (arith, T.decimal-are (c .before .args .n))
-
 enum-told : tie.Need-enum-told
 enum-told c = search needs
 
-short-requires : tie.Need-short-requires
-short-requires c κs = omega (arith, T.decimal-are (c .before .before .before .args .n))
+in-full-requires : tie.Need-in-full-requires
+in-full-requires c κs = search needs
 
 enum-known-precision : tie.Need-enum-known-precision
 enum-known-precision c = search needs
+
+digit-count-requires : tie.Need-digit-count-requires
+digit-count-requires c κs = search needs
+
+sub-fixed : tie.Need-sub-fixed
+sub-fixed c = omega (arith, T.decimal-are (c .before .before .before .before .args .n))
 
 cast-fixed : tie.Need-cast-fixed
 cast-fixed c = search needs
 
 fixed-requires : tie.Need-fixed-requires
-fixed-requires c κs = (omega (arith, T.decimal-are (c .before .before .before .before .args .n)), search needs)
+fixed-requires c κs = (omega (arith, c .digit-count .ensures, T.decimal-are (c .before .before .before .before .args .n)), search needs)
 
 returns : tie.Need-returns
-returns c = rw (c .before .enum-told .given .1) (c .short .ensures)
+returns c = rw (c .before .enum-told .given .1) (c .in-full .ensures)
 
 returns-2 : tie.Need-returns-2
-returns-2 c = rw (c .before .before .precision .given .1) (c .fixed .ensures)
+returns-2 c = rw (c .before .before .before .precision .given .1) (c .fixed .ensures)
 
 pub scale-spec : {M : Type 1} → statement M
 scale-spec =
     tie.close
     (tie.spec
-    digit-count-requires
-    sub-exp
     enum-told
-    short-requires
+    in-full-requires
     enum-known-precision
+    digit-count-requires
+    sub-fixed
     cast-fixed
     fixed-requires
     returns

@@ -1,13 +1,16 @@
 -- `writer::write_short` meets its contract. Assumes nothing.
 use mathlib.Core.Bool.{true}
+use mathlib.Core.Option.{none}
 use mathlib.Core.Path.{_≡_, refl, sym, _∙_}
 use borrow.Author.Tests.{not-true, not-false}
 use native.Mathlib.Omega.{arith}
 use lib.ListN.{length}
 use Rattle.exponent.specs.declared.Precision.the-variants.{None}
 use Rattle.kinds.specs.Kinds.{known, inType, meaning}
+use Rattle.scientific.specs.Layout.{expText}
 use Rattle.writing.specs.Promise.{house}
-use Rattle.writing.proofs.Cases.{known-range, options-refused, plain-writes, house-unframed, house-known, house-unknown, type-refused, value-refused, judged}
+use Rattle.writing.specs.Text.{letterOf}
+use Rattle.writing.proofs.Cases.{known-range, options-refused, plain-writes, exponent-writes, exponent-kept, settles, framed-bare, house-unframed, house-known, house-unknown, type-refused, value-refused, judged}
 use borrow.Author.Needs.{needs}
 use Rattle.writer.proofs.write_short.Statement.{statement}
 use Rattle.writer.proofs.write_short.Tie as tie
@@ -62,20 +65,30 @@ returns-4 c =
     judged (a .kind .signed) (a .kind .bits) (a .value) (a .format) house (a .out .now) (k .0) (k .1) _ _
     (rw (options-refused (a .kind .bits) (meaning 64 (a .kind .signed) (a .value)) (a .format) house (length (a .out .now)) (house-unknown (a .format) (c .if4 .taken))) (record { answers = refl; leaves = refl }))
 
-write-exponent-plainly-requires : tie.Need-write-exponent-plainly-requires
-write-exponent-plainly-requires c κs = c .before .before .if3 .left
+split-pattern-requires : tie.Need-split-pattern-requires
+split-pattern-requires c κs = search needs
+
+write-bare-in-full-requires : tie.Need-write-bare-in-full-requires
+write-bare-in-full-requires c κs = search needs
+
+settle-requires-2 : tie.Need-settle-requires-2
+settle-requires-2 c κs = search needs
 
 same-length-2 : tie.Need-same-length-2
 same-length-2 c = search needs
 
 returns-5 : tie.Need-returns-5
 returns-5 c =
-    let f = c .before .before .before .before in
+    let f = c .before .before .before .before .before .before in
     let t = f .before .before in
     let a = t .before .before .before .before .before .args in
-    let w = c .before .before .write-exponent-plainly in
+    let s = c .before .before .before .before .before .split-pattern in
+    let w = c .before .before .before .write-bare-in-full in
     let k = judged-are t in
-    judged (a .kind .signed) (a .kind .bits) (a .value) (a .format) house (a .out .now) (k .0) (k .1) (w .result) (w .last .1 .1 .1 .1 .0) (w .ensures (a .kind .bits) house house-unframed (house-known (a .format) (f .if4 .left)))
+    judged (a .kind .signed) (a .kind .bits) (a .value) (a .format) house (a .out .now) (k .0) (k .1) _ _
+    (exponent-writes (a .kind .bits) (meaning 64 (a .kind .signed) (a .value)) (a .format) house (length (a .out .now)) (s .result) (s .ensures) (house-known (a .format) (f .if4 .left)) (a .out .now) (c .settle2 .result) (w .last .1 .1 .1 .0) refl (f .before .if3 .left)
+    (rw (framed-bare house (s .result .negative) (a .format) (expText (letterOf (a .format)) none (s .result .magnitude)) house-unframed)
+    (exponent-kept none (s .result .magnitude) _ (a .out .now) _ _ (w .ensures .0) (settles (w .ensures .1) (c .settle2 .ensures)))))
 
 pub write-short-spec : {M : Type 1} → statement M
 write-short-spec =
@@ -90,6 +103,8 @@ write-short-spec =
     same-length
     returns-3
     returns-4
-    write-exponent-plainly-requires
+    split-pattern-requires
+    write-bare-in-full-requires
+    settle-requires-2
     same-length-2
     returns-5)
