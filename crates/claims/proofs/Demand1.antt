@@ -1,0 +1,171 @@
+-- Demand 1: by which check refuses, if any does, and by the room. Assumes nothing.
+use mathlib.Core.Bool.{Bool, true, false, false≢true, cond, _&&_}
+use mathlib.Core.List.{List, [], _∷_}
+use mathlib.Core.Logic.{_⊎_, inl, inr}
+use mathlib.Core.Path.{_≡_, refl, sym, _∙_}
+use Prim.Native.Nat.{ℕ, suc, _-_, _≤_, _<_}
+use native.Mathlib.Omega.{arith}
+use borrow.Author.Tests.{leb-true, leb-false, le-leb, lt-leb}
+use lib.Dec.{leb}
+use lib.IntN.{ℤ}
+use lib.ListN.{length}
+use Rattle.buffer.specs.AtEnd.{begun}
+use Rattle.kinds.specs.Kinds.{known, inType, meaning}
+use Rattle.parts.specs.Answers as parting
+use Rattle.parts.specs.Answers.{firstOut, checked, wrote, wroteNumber, wroteValue}
+use Rattle.parts.specs.Parts as parts
+use Rattle.parts.specs.Parts.{allKnown, leavesSource, Inside, trueLength, held}
+use Rattle.parts.specs.declared.Part.{Part}
+use Rattle.parts.specs.declared.Wrote.{Wrote}
+use Rattle.parts.specs.declared.Wrote.the-variants as write
+use Rattle.parts.proofs.Text.{length-text}
+use Rattle.writing.specs.Text.{textOf}
+use Rattle.writing.specs.Promise.{optionsKnown, exponentKept, fitted, number, value, after, answerOf, answer, Writes}
+use Rattle.writing.specs.declared.Options.{Options}
+use Rattle.writing.specs.declared.Written.{Written}
+use Rattle.writing.specs.declared.Written.the-variants.{Done, NoRoom}
+use Rattle.claims.specs.Demand1.{Demand1, Allowed, Judged, OfWriting, Sound, OfParts, OfEnds}
+
+-- ---- by the room, where no check refuses, and where one does
+
+module _ {Earlier : Type 0} {told : ℕ → ℕ} {t l : List ℕ} where
+  pub in-room : Earlier → length t ≤ length l → Demand1 Earlier told t l 0 (length t) (begun l t)
+  in-room E h = record {
+    no-room-when = λ _ k. absurd (omega arith);
+    no-room-only = λ k. absurd (omega arith);
+    needed = λ k. absurd (omega arith);
+    done-when = λ _ _. refl;
+    done-only = λ _. (E, h);
+    written = λ _. (refl, refl);
+    refused = λ f. absurd (f refl);
+  }
+
+  pub no-room : Earlier → length l < length t → Demand1 Earlier told t l 8 (told (length t)) l
+  no-room E h = record {
+    no-room-when = λ _ _. refl;
+    no-room-only = λ _. (E, h);
+    needed = λ _. refl;
+    done-when = λ _ k. absurd (omega arith);
+    done-only = λ k. absurd (omega arith);
+    written = λ k. absurd (omega arith);
+    refused = λ _. refl;
+  }
+
+  pub earlier : (n v : ℕ) → (Earlier → ⊥) → (n ≡ 0 → ⊥) → (n ≡ 8 → ⊥) → Demand1 Earlier told t l n v l
+  earlier n v f z e = record {
+    no-room-when = λ E _. absurd (f E);
+    no-room-only = λ k. absurd (e k);
+    needed = λ k. absurd (e k);
+    done-when = λ E _. absurd (f E);
+    done-only = λ k. absurd (z k);
+    written = λ k. absurd (z k);
+    refused = λ _. refl;
+  }
+
+-- ---- writing
+
+-- that an answer keeps a promise is all that counts
+kept : {Earlier : Type 0} {t l : List ℕ} {a r : Written} {l′ : List ℕ} → Writes t a l r l′ → Demand1 Earlier (λ n. n) t l (number a) (value a) (after a t l) → Demand1 Earlier (λ n. n) t l (number r) (value r) l′
+kept W D = rw (W .answers, W .leaves) D
+
+abbrev Kept : Type 0 → List ℕ → List ℕ → Written → Type 0
+Kept Earlier t l a = Demand1 Earlier (λ n. n) t l (number a) (value a) (after a t l)
+
+fits : (Earlier : Type 0) (t l : List ℕ) → Earlier → Kept Earlier t l (fitted t (length l))
+fits Earlier t l E = go (leb (length t) (length l)) refl
+  where
+    go : (b : Bool) → leb (length t) (length l) ≡ b → Kept Earlier t l (fitted t (length l))
+    go true e = rw e (in-room E (leb-true (length t) (length l) e))
+    go false e = rw e (no-room E (leb-false (length t) (length l) e))
+
+of-type : (bits : ℕ) (z : ℤ) (format : ℕ) (o : Options) (l : List ℕ) → Kept (Allowed format o z) (textOf bits z format o) l (answerOf bits z format o (length l))
+unfolding answerOf
+of-type bits z format o l = go (optionsKnown format o) (exponentKept format o z) refl refl
+  where
+    go : (a b : Bool) → optionsKnown format o ≡ a → exponentKept format o z ≡ b → Kept (Allowed format o z) (textOf bits z format o) l (answerOf bits z format o (length l))
+    go false b e f = rw e (earlier 6 0 (λ E. false≢true (sym e ∙ E .options)) (λ k. omega arith) (λ k. omega arith))
+    go true false e f = rw (e, f) (earlier 10 0 (λ E. false≢true (sym f ∙ E .exponent)) (λ k. omega arith) (λ k. omega arith))
+    go true true e f = rw (e, f) (fits (Allowed format o z) (textOf bits z format o) l (record { options = e; exponent = f }))
+
+-- a stronger condition, where what it adds holds
+pub weaker : {E F : Type 0} {told : ℕ → ℕ} {t l : List ℕ} {n v : ℕ} {l′ : List ℕ} → (E → F) → (F → E) → Demand1 E told t l n v l′ → Demand1 F told t l n v l′
+weaker f g D = record {
+  no-room-when = λ x h. D .no-room-when (g x) h;
+  no-room-only = λ k. let y = D .no-room-only k in (f (y .0), y .1);
+  needed = D .needed;
+  done-when = λ x h. D .done-when (g x) h;
+  done-only = λ k. let y = D .done-only k in (f (y .0), y .1);
+  written = D .written;
+  refused = D .refused;
+}
+
+of-core : (signed : Bool) (bits p format : ℕ) (o : Options) (l : List ℕ) → Kept (Judged signed bits p format o) (textOf bits (meaning 64 signed p) format o) l (answer signed bits p format o (length l))
+unfolding answer
+of-core signed bits p format o l = go (known bits) (inType signed bits (meaning 64 signed p)) refl refl
+  where
+    go : (a b : Bool) → known bits ≡ a → inType signed bits (meaning 64 signed p) ≡ b → Kept (Judged signed bits p format o) (textOf bits (meaning 64 signed p) format o) l (answer signed bits p format o (length l))
+    go false b e f = rw e (earlier 5 0 (λ E. false≢true (sym e ∙ E .type)) (λ k. omega arith) (λ k. omega arith))
+    go true false e f = rw (e, f) (earlier 7 0 (λ E. false≢true (sym f ∙ E .value)) (λ k. omega arith) (λ k. omega arith))
+    go true true e f = rw (e, f) (weaker (λ A. record { type = e; value = f; allowed = A }) (λ J. J .allowed) (of-type bits (meaning 64 signed p) format o l))
+
+pub of-writing : OfWriting
+of-writing = record {
+  core = λ signed bits p format o l r l′ W. kept W (of-core signed bits p format o l);
+  by-type = λ bits z format o l r l′ W. kept W (of-type bits z format o l);
+}
+
+-- ---- parts
+
+-- every part is inside its source, or one leaves it
+out-or-not : {A : Type 0} (out : ℕ → A) (fine : A) (n i : ℕ) (ps : List Part) → (Inside n ps × (firstOut out fine n i ps ≡ fine)) ⊎ ((Inside n ps → ⊥) × ((j : ℕ) × (firstOut out fine n i ps ≡ out j)))
+unfolding firstOut Inside
+out-or-not out fine n i [] = inl (tt, refl)
+out-or-not {A} out fine n i (p ∷ ps) = go (leavesSource n p) refl (out-or-not out fine n (suc i) ps)
+  where
+    go : (b : Bool) → leavesSource n p ≡ b → (Inside n ps × (firstOut out fine n (suc i) ps ≡ fine)) ⊎ ((Inside n ps → ⊥) × ((j : ℕ) × (firstOut out fine n (suc i) ps ≡ out j)))
+        → (Inside n (p ∷ ps) × (firstOut out fine n i (p ∷ ps) ≡ fine)) ⊎ ((Inside n (p ∷ ps) → ⊥) × ((j : ℕ) × (firstOut out fine n i (p ∷ ps) ≡ out j)))
+    go true e r = inr ((λ I. false≢true (sym (I .0) ∙ e)), (i, rw e refl))
+    go false e (inl r) = inl ((e, r .0), rw e (r .1))
+    go false e (inr r) = inr ((λ I. r .0 (I .1)), (r .1 .0, rw e (r .1 .1)))
+
+module _ (sign : ℕ) (ps : List Part) (src out : List ℕ) where
+  abbrev text : List ℕ
+  text = parts.textOf sign src ps
+
+  abbrev of-answer : Wrote → Type 0
+  of-answer r = Demand1 (Sound sign ps src) held text out (wroteNumber r) (wroteValue r) (parting.after r text out)
+
+  -- the answer where every check passes
+  abbrev fine : Wrote
+  fine = cond (leb (trueLength sign ps) (length out)) (write.Done (trueLength sign ps)) (write.NoRoom (held (trueLength sign ps)))
+
+  parts-fit : (E : Sound sign ps src) → (b : Bool) → leb (trueLength sign ps) (length out) ≡ b → (r : Wrote)
+      → r ≡ cond b (write.Done (trueLength sign ps)) (write.NoRoom (held (trueLength sign ps))) → of-answer r
+  parts-fit E true e r i = let n = length-text sign src ps (E .inside) in rw (i, ← n) (in-room E (omega (arith, leb-true (trueLength sign ps) (length out) e)))
+  parts-fit E false e r i = let n = length-text sign src ps (E .inside) in rw (i, ← n) (no-room E (omega (arith, leb-false (trueLength sign ps) (length out) e)))
+
+  parts-checked : of-answer (wrote (length src) (length out) sign ps)
+  unfolding wrote checked
+  parts-checked = go (parts.known sign && allKnown ps) refl
+    where
+      go : (b : Bool) → (parts.known sign && allKnown ps) ≡ b → of-answer (wrote (length src) (length out) sign ps)
+      go false e = rw e (earlier 6 0 (λ E. false≢true (sym e ∙ E .codes)) (λ k. omega arith) (λ k. omega arith))
+      go true e = by (out-or-not write.PartRefused fine (length src) 0 ps)
+        where
+          by : (Inside (length src) ps × (firstOut write.PartRefused fine (length src) 0 ps ≡ fine)) ⊎ ((Inside (length src) ps → ⊥) × ((j : ℕ) × (firstOut write.PartRefused fine (length src) 0 ps ≡ write.PartRefused j)))
+              → of-answer (wrote (length src) (length out) sign ps)
+          by (inl w) = rw e (parts-fit (record { codes = e; inside = w .0 }) (leb (trueLength sign ps) (length out)) refl _ (w .1))
+          by (inr w) = rw (e, w .1 .1) (earlier 9 (w .1 .0) (λ E. w .0 (E .inside)) (λ k. omega arith) (λ k. omega arith))
+
+pub of-parts : OfParts
+of-parts = record {
+  writing = λ sign ps src out r out′ W. rw (W .leaves, W .answers) (parts-checked sign ps src out);
+}
+
+-- ---- the end entries
+
+pub of-ends : OfEnds
+of-ends = record {
+  refused = λ t l r l′ P h. let e = lt-leb (length t) (length l) h in (P .answers ∙ rw e refl, P .leaves ∙ rw e refl);
+  done = λ t l r l′ P s h. let e = le-leb (length t) (length l) h in let a : r ≡ length l - length t = P .answers ∙ rw e refl in (omega arith, P .leaves ∙ rw e refl);
+}

@@ -1,0 +1,136 @@
+-- Demand 2: the rules of the text, and the round trip from the reader's laws. Assumes nothing.
+use mathlib.Core.Bool.{Bool, true, false}
+use mathlib.Core.List.{List, _++_}
+use mathlib.Core.Path.{_≡_, refl, sym, ap, _∙_, subst}
+use Prim.Native.Nat.{ℕ, zero, suc, _+_, _-_, _≤_, max}
+use native.Mathlib.Omega.{arith}
+use lib.Dec.{eqb}
+use lib.IntN.{ℤ, pos, negsuc}
+use lib.ListN.{length}
+use Rattle.digits.specs.Digits.{upTo, bare, digits}
+use Rattle.digits.specs.Text.{text, decimal, signed}
+use Rattle.digits.proofs.Digits.{canonical, unique}
+use Rattle.exponent.specs.Coefficient.{precisionOf}
+use Rattle.kinds.specs.Kinds.{known, inType, pattern, negative}
+use Rattle.kinds.proofs.Sizes.{greatest-unsigned, greatest-signed}
+use Rattle.padding.specs.Padding.{signOf, prefixOf, beforeOf, zerosOf, behindOf}
+use Rattle.padding.proofs.Padding.{padded-length}
+use Rattle.outcomes.specs.Outcomes.{valueOf}
+use Rattle.outcomes.specs.declared.Outcome.{Outcome}
+use Rattle.outcomes.specs.declared.Outcome.the-variants as outcome
+use Rattle.radix.specs.Radix.{radix}
+use Rattle.radix.proofs.Lengths.{radix-length}
+use Rattle.reader.specs.Answers.{Answers}
+use Rattle.reader.proofs.Outcomes.{read-plain, read-back, read-only, read-refused}
+use Rattle.reading.specs.Formats.{plain}
+use Rattle.writing.specs.Text.{minus, body, textOf}
+use Rattle.writing.specs.Promise.{house}
+use Rattle.writing.proofs.Cases.{framed-bare, house-unframed}
+use Rattle.claims.specs.Demand2.{OfDigits, OfText, OfLengths, OfSizes, RoundTrip, OfReading}
+
+pub of-digits : OfDigits
+of-digits = record { are = λ b n h. canonical b h n; only = λ b n ds h C. unique b h n ds C }
+
+-- ---- the text at the house default
+
+-- nothing stands around it but a minus
+bare-text : (bits : ℕ) (z : ℤ) (format : ℕ) → textOf bits z format house ≡ signOf (minus format z) false ++ body format bits (precisionOf (house .precision)) z
+unfolding textOf
+bare-text bits z format = framed-bare house (minus format z) format (body format bits (precisionOf (house .precision)) z) house-unframed
+
+-- it is the plain text that the reader's definitions speak of
+pub plain-text : (bits format : ℕ) (z : ℤ) → format ≤ 6 → textOf bits z format house ≡ plain bits format z
+unfolding plain signed
+plain-text bits zero (pos n) h = bare-text bits (pos n) 0
+plain-text bits zero (negsuc k) h = bare-text bits (negsuc k) 0
+plain-text bits (suc zero) z h = bare-text bits z 1
+plain-text bits (suc (suc zero)) z h = bare-text bits z 2
+plain-text bits (suc (suc (suc zero))) z h = bare-text bits z 3
+plain-text bits (suc (suc (suc (suc zero)))) z h = bare-text bits z 4
+plain-text bits (suc (suc (suc (suc (suc zero))))) (pos n) h = bare-text bits (pos n) 5
+plain-text bits (suc (suc (suc (suc (suc zero))))) (negsuc k) h = bare-text bits (negsuc k) 5
+plain-text bits (suc (suc (suc (suc (suc (suc zero)))))) (pos n) h = bare-text bits (pos n) 6
+plain-text bits (suc (suc (suc (suc (suc (suc zero)))))) (negsuc k) h = bare-text bits (negsuc k) 6
+plain-text bits (suc (suc (suc (suc (suc (suc (suc m))))))) z h = absurd (omega arith)
+
+pub of-text : OfText
+unfolding text digits bare upTo plain
+of-text = record {
+  zero = λ bits. bare-text bits (pos 0) 0;
+  decimal-is = λ bits n. bare-text bits (pos n) 0;
+  negative-is = λ bits k. bare-text bits (negsuc k) 0;
+  radix-is = radix-is;
+  exponent-is = λ bits z. (plain-text bits 5 z (omega arith), plain-text bits 6 z (omega arith));
+}
+  where
+    radix-is : (bits format : ℕ) (z : ℤ) → 1 ≤ format → format ≤ 4 → textOf bits z format house ≡ radix format (pattern bits z)
+    radix-is bits zero z h k = absurd (omega arith)
+    radix-is bits (suc zero) z h k = bare-text bits z 1
+    radix-is bits (suc (suc zero)) z h k = bare-text bits z 2
+    radix-is bits (suc (suc (suc zero))) z h k = bare-text bits z 3
+    radix-is bits (suc (suc (suc (suc zero)))) z h k = bare-text bits z 4
+    radix-is bits (suc (suc (suc (suc (suc m))))) z h k = absurd (omega arith)
+
+-- ---- lengths
+
+-- what is lacking to the width stands in one place or two
+lacking : (pad : Bool) (align k : ℕ) → beforeOf pad align k + (zerosOf pad k + behindOf pad align k) ≡ k
+lacking true align k = omega arith
+lacking false align k = go (eqb align 1) (eqb align 2) refl refl
+  where
+    go : (a b : Bool) → eqb align 1 ≡ a → eqb align 2 ≡ b → beforeOf false align k + (zerosOf false k + behindOf false align k) ≡ k
+    go true b e f = rw e (omega arith)
+    go false true e f = rw (e, f) (omega arith)
+    go false false e f = rw (e, f) (omega arith)
+
+pub of-lengths : OfLengths
+unfolding textOf
+of-lengths = record {
+  lengths = λ format n. radix-length format n;
+  padded = λ bits z format o.
+      let sign = signOf (minus format z) (o .plus) in
+      let prefix = prefixOf (o .alternate) format in
+      let digits = body format bits (precisionOf (o .precision)) z in
+      let k = o .width - (length sign + (length prefix + length digits)) in
+      let n = padded-length (o .zero) (o .fill) (o .align) (o .width) sign prefix digits {before = beforeOf (o .zero) (o .align) k} {zeros = zerosOf (o .zero) k} {behind = behindOf (o .zero) (o .align) k} (record { before-is = refl; zeros-is = refl; behind-is = refl }) in
+      wide (o .width) (length sign + (length prefix + length digits)) _ (omega (arith, lacking (o .zero) (o .align) k));
+}
+  where
+    wide : (w m n : ℕ) → n ≡ (w - m) + m → n ≡ max w m
+    wide w m n e = omega arith
+
+pub of-sizes : OfSizes
+unfolding text digits bare upTo
+of-sizes = record {
+  u8 = greatest-unsigned 8;
+  i8 = greatest-signed 8;
+  u16 = greatest-unsigned 16;
+  i16 = greatest-signed 16;
+  u32 = greatest-unsigned 32;
+  i32 = greatest-signed 32;
+  u64 = greatest-unsigned 64;
+  i64 = greatest-signed 64;
+}
+
+-- ---- the round trip
+
+trip : (sgn : Bool) (bits format : ℕ) → known bits ≡ true → format ≤ 6 → RoundTrip sgn bits format
+trip sgn bits format k h = record {
+  back = back;
+  answered = answered;
+  only = λ t v A. let z = read-only sgn bits format k h t v A in (z .0, z .1, z .2 ∙ sym (plain-text bits format (z .0) h), z .3);
+  refused = λ t r f A. read-refused sgn bits format k h t r (λ z i e. f z i (e ∙ sym (plain-text bits format z h))) A;
+  apart = λ y z i j e. done (sym (back y (outcome.Done (pattern 64 z)) i (subst (λ (t : List ℕ). Answers sgn bits format t (outcome.Done (pattern 64 z))) (sym e) (answered z j))));
+}
+  where
+    back : (z : ℤ) (r : Outcome) → inType sgn bits z ≡ true → Answers sgn bits format (textOf bits z format house) r → r ≡ outcome.Done (pattern 64 z)
+    back z r i A = read-back sgn bits format k h z r i (subst (λ (t : List ℕ). Answers sgn bits format t r) (plain-text bits format z h) A)
+
+    answered : (z : ℤ) → inType sgn bits z ≡ true → Answers sgn bits format (textOf bits z format house) (outcome.Done (pattern 64 z))
+    answered z i = subst (λ (t : List ℕ). Answers sgn bits format t (outcome.Done (pattern 64 z))) (sym (plain-text bits format z h)) (read-plain sgn bits format k h z i)
+
+    done : {u v : ℕ} → outcome.Done u ≡ outcome.Done v → u ≡ v
+    done e = ap valueOf e
+
+pub of-reading : OfReading
+of-reading = record { round-trip = trip }

@@ -1,0 +1,69 @@
+-- Demand 1, of what an entry answers and of every lent byte. That each call ends and stays inside lent memory is what the check shows of every function.
+use mathlib.Core.Bool.{Bool, true, _&&_}
+use mathlib.Core.List.{List}
+use mathlib.Core.Path.{_≡_}
+use Prim.Native.Nat.{ℕ, _≤_, _<_}
+use lib.IntN.{ℤ}
+use lib.ListN.{length}
+use Rattle.buffer.specs.AtEnd.{ended, begun}
+use Rattle.decimal.specs.Ends.{EndPromise}
+use Rattle.kinds.specs.Kinds.{known, inType, meaning}
+use Rattle.parts.specs.Answers as parting
+use Rattle.parts.specs.Answers.{wroteNumber, wroteValue}
+use Rattle.parts.specs.Parts as parts
+use Rattle.parts.specs.Parts.{allKnown, Inside, held}
+use Rattle.parts.specs.declared.Part.{Part}
+use Rattle.parts.specs.declared.Wrote.{Wrote}
+use Rattle.writing.specs.Text.{textOf}
+use Rattle.writing.specs.Promise.{optionsKnown, exponentKept, number, value, answerOf, answer, Writes}
+use Rattle.writing.specs.declared.Options.{Options}
+use Rattle.writing.specs.declared.Written.{Written}
+
+-- n is the number of the answer to a call for the text t in the buffer l, v what it returns, and l′ the buffer afterwards.
+-- Earlier says that no check before NO_ROOM refuses; `told` is how a length is told.
+pub record Demand1 (Earlier : Type 0) (told : ℕ → ℕ) (t l : List ℕ) (n v : ℕ) (l′ : List ℕ) : Type 0 where
+  -- NO_ROOM exactly when no earlier check refuses and the text is longer than the buffer
+  pub no-room-when : Earlier → length l < length t → n ≡ 8
+  pub no-room-only : n ≡ 8 → Earlier × (length l < length t)
+  -- it returns the needed length
+  pub needed : n ≡ 8 → v ≡ told (length t)
+  -- DONE exactly when nothing refuses
+  pub done-when : Earlier → length t ≤ length l → n ≡ 0
+  pub done-only : n ≡ 0 → Earlier × (length t ≤ length l)
+  -- it returns the length; the text stands at the start, and the bytes behind it are as before
+  pub written : n ≡ 0 → (v ≡ length t) × (l′ ≡ begun l t)
+  -- a refused call changes no lent byte
+  pub refused : (n ≡ 0 → ⊥) → l′ ≡ l
+
+-- No check before NO_ROOM refuses a value of the entry's own type; or a pattern of a type that is given.
+pub record Allowed (format : ℕ) (o : Options) (z : ℤ) : Type 0 where
+  pub options : optionsKnown format o ≡ true
+  pub exponent : exponentKept format o z ≡ true
+
+pub record Judged (signed : Bool) (bits p format : ℕ) (o : Options) : Type 0 where
+  pub type : known bits ≡ true
+  pub value : inType signed bits (meaning 64 signed p) ≡ true
+  pub allowed : Allowed format o (meaning 64 signed p)
+
+-- The claim, of both promises of the writer: that of the core (the short form is the core at the house default), and that of the entries by type.
+pub record OfWriting : Type 0 where
+  pub core : (signed : Bool) (bits p format : ℕ) (o : Options) (l : List ℕ) (r : Written) (l′ : List ℕ)
+      → Writes (textOf bits (meaning 64 signed p) format o) (answer signed bits p format o (length l)) l r l′
+      → Demand1 (Judged signed bits p format o) (λ n. n) (textOf bits (meaning 64 signed p) format o) l (number r) (value r) l′
+  pub by-type : (bits : ℕ) (z : ℤ) (format : ℕ) (o : Options) (l : List ℕ) (r : Written) (l′ : List ℕ)
+      → Writes (textOf bits z format o) (answerOf bits z format o (length l)) l r l′
+      → Demand1 (Allowed format o z) (λ n. n) (textOf bits z format o) l (number r) (value r) l′
+
+-- Of parts, three by value or a list of any length: every code is known, and no copied run leaves its source. NO_ROOM tells a length that is held at 2^64 - 1.
+pub record Sound (sign : ℕ) (ps : List Part) (src : List ℕ) : Type 0 where
+  pub codes : (parts.known sign && allKnown ps) ≡ true
+  pub inside : Inside (length src) ps
+
+pub record OfParts : Type 0 where
+  pub writing : (sign : ℕ) (ps : List Part) (src out : List ℕ) (r : Wrote) (out′ : List ℕ) → parting.Writes sign ps src out r out′
+      → Demand1 (Sound sign ps src) held (parts.textOf sign src ps) out (wroteNumber r) (wroteValue r) out′
+
+-- Of the end entries, whose only refusal is NO_ROOM: r is where the text starts, and the buffer's length on refusal. No number's decimal is empty.
+pub record OfEnds : Type 0 where
+  pub refused : (t l : List ℕ) (r : ℕ) (l′ : List ℕ) → EndPromise t l r l′ → length l < length t → (r ≡ length l) × (l′ ≡ l)
+  pub done : (t l : List ℕ) (r : ℕ) (l′ : List ℕ) → EndPromise t l r l′ → 0 < length t → length t ≤ length l → (r < length l) × (l′ ≡ ended l (length l) t)

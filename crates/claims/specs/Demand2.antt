@@ -1,0 +1,70 @@
+-- Demand 2: what the text is, by document 01's rules; and that plain texts are read back, and they alone. Over every type, format and value.
+use mathlib.Core.Bool.{Bool, true, false}
+use mathlib.Core.List.{List, [], _∷_}
+use mathlib.Core.Path.{_≡_}
+use Prim.Native.Nat.{ℕ, suc, _+_, _≤_, _<_, max}
+use lib.IntN.{ℤ, pos, negsuc}
+use lib.ListN.{length}
+use Rattle.digits.specs.Digits.{Canonical, digits}
+use Rattle.digits.specs.Text.{decimal}
+use Rattle.exponent.specs.Coefficient.{precisionOf}
+use Rattle.kinds.specs.Kinds.{known, inType, pattern, Greatest}
+use Rattle.outcomes.specs.Outcomes.{numberOf}
+use Rattle.outcomes.specs.declared.Outcome.{Outcome}
+use Rattle.outcomes.specs.declared.Outcome.the-variants as outcome
+use Rattle.padding.specs.Padding.{signOf, prefixOf}
+use Rattle.radix.specs.Radix.{radix, digitBits, roundedUp}
+use Rattle.reader.specs.Answers.{Answers}
+use Rattle.reading.specs.Formats.{exponentText}
+use Rattle.writing.specs.Text.{minus, body, textOf}
+use Rattle.writing.specs.Promise.{house}
+use Rattle.writing.specs.declared.Options.{Options}
+
+-- Digits: they stand for the number, zero is the one digit 0, none leads with a zero else; and nothing else is so.
+pub record OfDigits : Type 0 where
+  pub are : (b n : ℕ) → 1 < b → Canonical b n (digits b n)
+  pub only : (b n : ℕ) (ds : List ℕ) → 1 < b → Canonical b n ds → ds ≡ digits b n
+
+-- The text at the house default, by the format.
+pub record OfText : Type 0 where
+  pub zero : (bits : ℕ) → textOf bits (pos 0) 0 house ≡ 48 ∷ []
+  pub decimal-is : (bits n : ℕ) → textOf bits (pos n) 0 house ≡ decimal n
+  -- decimal of a negative is `-` and its magnitude
+  pub negative-is : (bits k : ℕ) → textOf bits (negsuc k) 0 house ≡ 45 ∷ decimal (suc k)
+  -- binary, octal and hex show the two's complement pattern at the type's own bits
+  pub radix-is : (bits format : ℕ) (z : ℤ) → 1 ≤ format → format ≤ 4 → textOf bits z format house ≡ radix format (pattern bits z)
+  pub exponent-is : (bits : ℕ) (z : ℤ) → (textOf bits z 5 house ≡ exponentText 101 z) × (textOf bits z 6 house ≡ exponentText 69 z)
+
+-- Lengths: binary has as many digits as the bits the pattern needs, octal and hex a third and a quarter of them, rounded up.
+pub record OfLengths : Type 0 where
+  pub lengths : (format n : ℕ) → length (radix format n) ≡ roundedUp (length (digits 2 n)) (digitBits format)
+  -- with options: the width, or what stands there without it if that is longer
+  pub padded : (bits : ℕ) (z : ℤ) (format : ℕ) (o : Options)
+      → length (textOf bits z format o)
+      ≡ max (o .width) (length (signOf (minus format z) (o .plus)) + (length (prefixOf (o .alternate) format) + length (body format bits (precisionOf (o .precision)) z)))
+
+-- Sizes: the greatest decimal length of each type.
+pub record OfSizes : Type 0 where
+  pub u8 : Greatest false 8 3
+  pub i8 : Greatest true 8 4
+  pub u16 : Greatest false 16 5
+  pub i16 : Greatest true 16 6
+  pub u32 : Greatest false 32 10
+  pub i32 : Greatest true 32 11
+  pub u64 : Greatest false 64 20
+  pub i64 : Greatest true 64 20
+
+-- Of a type and a format: what the short form writes is read back, and what is read was written so.
+pub record RoundTrip (sgn : Bool) (bits format : ℕ) : Type 0 where
+  -- reading the plain text of a value gives back the value, as a 64-bit pattern, and nothing else
+  pub back : (z : ℤ) (r : Outcome) → inType sgn bits z ≡ true → Answers sgn bits format (textOf bits z format house) r → r ≡ outcome.Done (pattern 64 z)
+  pub answered : (z : ℤ) → inType sgn bits z ≡ true → Answers sgn bits format (textOf bits z format house) (outcome.Done (pattern 64 z))
+  -- the accepted texts are exactly the written plain texts
+  pub only : (t : List ℕ) (v : ℕ) → Answers sgn bits format t (outcome.Done v) → (z : ℤ) × (inType sgn bits z ≡ true) × (t ≡ textOf bits z format house) × (v ≡ pattern 64 z)
+  -- a text that no value of the type has is refused
+  pub refused : (t : List ℕ) (r : Outcome) → ((z : ℤ) → inType sgn bits z ≡ true → t ≡ textOf bits z format house → ⊥) → Answers sgn bits format t r → numberOf r ≡ 0 → ⊥
+  -- two values with one text are one
+  pub apart : (y z : ℤ) → inType sgn bits y ≡ true → inType sgn bits z ≡ true → textOf bits y format house ≡ textOf bits z format house → pattern 64 y ≡ pattern 64 z
+
+pub record OfReading : Type 0 where
+  pub round-trip : (sgn : Bool) (bits format : ℕ) → known bits ≡ true → format ≤ 6 → RoundTrip sgn bits format
