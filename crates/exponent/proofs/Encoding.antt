@@ -80,18 +80,18 @@ pub two-exp : (letter e : ℕ) → 10 ≤ e → e < 100 → 3 ≡ length (letter
 unfolding lastText last
 two-exp letter e h b = rw (text-last ascii 10 T.ten 1 e h b) refl
 
--- the letter, the first digit and the last, which of one digit is the first
-pub exp-digits : (l : List ℕ) (at letter e first len : ℕ) → e < 100 → (e < 10 → first ≡ 48 + e) × (10 ≤ e → first ≡ 48 + e / 10) → len ≡ length (letter ∷ decimal e) → at + len ≤ length l
-    → set (set (set l at letter) (at + 1) first) (at + len - 1) (48 + e % 10) ≡ ended l (at + len) (letter ∷ decimal e)
+-- the letter, the tens and the units: where there is one digit, it is written over the tens
+pub exp-digits : (l : List ℕ) (at letter e len : ℕ) → e < 100 → len ≡ length (letter ∷ decimal e) → at + len ≤ length l
+    → set (set (set l at letter) (at + 1) (48 + e / 10)) (at + len - 1) (48 + e % 10) ≡ ended l (at + len) (letter ∷ decimal e)
 unfolding lastText last
-exp-digits l at letter e first len b f n h = go (decLt e 10)
+exp-digits l at letter e len b n h = go (decLt e 10)
   where
-    go : Dec (e < 10) → set (set (set l at letter) (at + 1) first) (at + len - 1) (48 + e % 10) ≡ ended l (at + len) (letter ∷ decimal e)
+    go : Dec (e < 10) → set (set (set l at letter) (at + 1) (48 + e / 10)) (at + len - 1) (48 + e % 10) ≡ ended l (at + len) (letter ∷ decimal e)
     go (yes y) =
         let two : len ≡ 2 = omega (arith, one-exp letter e y) in
         let i : at + 2 - 1 ≡ at + 1 = omega arith in
         let u : e % 10 ≡ e = omega arith in
-        rw (two, i, u, f .0 y, set-set (set l at letter) (at + 1) (48 + e) (48 + e), text-small ascii 10 T.ten e y, add-one at)
+        rw (two, i, u, set-set (set l at letter) (at + 1) (48 + e / 10) (48 + e), text-small ascii 10 T.ten e y, add-one at)
         (ended-sets l at (at + 2) (letter ∷ (48 + e) ∷ []) refl (omega arith))
     go (no y) =
         let k : 10 ≤ e = omega arith in
@@ -100,4 +100,4 @@ exp-digits l at letter e first len b f n h = go (decLt e 10)
         let d : e / 10 ^ 1 % 10 ≡ e / 10 = omega arith in
         let u : e / 10 ^ 0 % 10 ≡ e % 10 = omega arith in
         let t : decimal e ≡ (48 + e / 10) ∷ (48 + e % 10) ∷ [] = text-last ascii 10 T.ten 1 e k b ∙ rw (d, u) in
-        rw (three, i, f .1 k, t, add-one at) (ended-sets l at (at + 3) (letter ∷ (48 + e / 10) ∷ (48 + e % 10) ∷ []) refl (omega arith))
+        rw (three, i, t, add-one at) (ended-sets l at (at + 3) (letter ∷ (48 + e / 10) ∷ (48 + e % 10) ∷ []) refl (omega arith))

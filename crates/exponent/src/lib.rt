@@ -3,7 +3,7 @@
 ghost use mathlib.Core.Option.{none, some};
 ghost use mathlib.Core.Path.{_≡_};
 ghost use mathlib.Core.List.{_∷_};
-ghost use Prim.Native.Nat.{ℕ, _+_, _/_, _<_, _≤_};
+ghost use Prim.Native.Nat.{ℕ, _+_, _<_, _≤_};
 ghost use lib.ListN.{length};
 ghost use Rattle.buffer.specs.AtEnd.{ended};
 ghost use Rattle.digits.specs.Text.{decimal};
@@ -188,26 +188,16 @@ fn exp_length(exp: usize) -> usize
     3
 }
 
-// The exponent's first digit.
-fn first_digit(exp: usize) -> u8
-    requires { ⌜ exp < 100 ⌝ }
-    ensures { λ r. ⌜ (exp < 10 → r ≡ 48 + exp) × (10 ≤ exp → r ≡ 48 + exp / 10) ⌝ }
-{
-    if exp < 10 {
-        return 48 + exp as u8;
-    }
-    48 + (exp / 10) as u8
-}
-
-// The letter and the exponent's one or two digits from the index at on, with no branch: the last of one is also the first. Their length.
+// The letter and the exponent's one or two digits from the index at on, with no branch: where there is one, the last is written over the first. Their length.
 fn encode_exp(letter: u8, exp: usize, buf: &mut [u8], at: usize) -> usize
     requires { ⌜ (exp < 100) × (at + length (letter ∷ decimal exp) ≤ length (now buf)) ⌝ }
     ensures { λ r. ⌜ (r ≡ length (letter ∷ decimal exp)) × (now (buf .exit) ≡ ended (now (buf .entry)) (at + r) (letter ∷ decimal exp)) ⌝ }
 {
     let len = exp_length(exp);
+    let short = exp as u32;
     buf[at] = letter;
-    buf[at + 1] = first_digit(exp);
-    buf[at + len - 1] = 48 + (exp % 10) as u8;
+    buf[at + 1] = 48 + (short / 10) as u8;
+    buf[at + len - 1] = 48 + (short % 10) as u8;
     len
 }
 
