@@ -64,11 +64,6 @@ module _ (b : ℕ) (big : 1 < b) where
   pub bare-snoc : (n d : ℕ) → d < b → 0 < n * b + d → bare b (n * b + d) ≡ bare b n ++ (d ∷ [])
   bare-snoc n d h p = bare-step (n * b + d) p ∙ rw (digits-div n h, digits-mod n h)
 
-  pub digits-snoc : (n d : ℕ) → 0 < n → d < b → digits b (n * b + d) ≡ digits b n ++ (d ∷ [])
-  digits-snoc n d p h =
-      let q : 0 < n * b + d = le-trans (mul-pos p pos) (le-add-right (n * b) d) in
-      rw (digits-pos n p, digits-pos (n * b + d) q) (bare-snoc n d h q)
-
   -- what holds of 0, and of each n above 0 where it holds of n / b, holds of every number
   pub by-quotient {ℓ} : (P : ℕ → Type ℓ) → P 0 → ((n : ℕ) → 0 < n → P (n / b) → P n) → (n : ℕ) → P n
   by-quotient P z s n = go n n (le-refl n)

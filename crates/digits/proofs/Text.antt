@@ -57,10 +57,6 @@ module _ (α : ℕ → ℕ) (b : ℕ) (big : 1 < b) where
   pub text-most : (k n : ℕ) → 0 < k → n < b ^ k → length (text α b n) ≤ k
   text-most k n p h = rw (length-text n) (digits-length-le b big k n p h)
 
-  -- so many digits, from the power at or below n
-  pub text-length : (k n : ℕ) → b ^ k ≤ n → n < b ^ suc k → length (text α b n) ≡ suc k
-  text-length k n l h = length-text n ∙ digits-length b big k n l h
-
   pub text-mono : {n m : ℕ} → n ≤ m → length (text α b n) ≤ length (text α b m)
   text-mono {n} {m} h = rw (length-text n, length-text m) (length-mono b big h)
 
