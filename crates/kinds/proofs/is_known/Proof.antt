@@ -1,6 +1,5 @@
 -- `kinds::is_known` meets its contract. Assumes nothing.
 use mathlib.Core.Path.{sym}
-use native.Mathlib.Omega.{arith}
 use Rattle.kinds.proofs.Patterns.{known-yes, known-no, known-beyond}
 use Rattle.kinds.proofs.is_known.Statement.{statement}
 use Rattle.kinds.proofs.is_known.Tie as tie
