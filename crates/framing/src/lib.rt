@@ -2,7 +2,7 @@
 // Carries over pad_integral and pad_formatted_parts of fmt/mod.rs, where they ask for the digits.
 ghost use mathlib.Core.Path.{_≡_};
 ghost use mathlib.Core.List.{List};
-ghost use Prim.Native.Nat.{ℕ, _-_, _≤_};
+ghost use Prim.Native.Nat.{ℕ, _-_, _<_, _≤_};
 ghost use lib.ListN.{length};
 ghost use Rattle.buffer.specs.AtEnd.{ended};
 ghost use Rattle.exponent.specs.Coefficient.{precisionOf};
@@ -77,6 +77,19 @@ pub fn write_bare(format: u32, n: u64, negative: bool, out: &mut [u8]) -> usize
         return count;
     }
     write_digits(format, n, out, count);
+    count
+}
+
+// Hex digits alone: the same by the shortest way.
+pub fn write_hex(format: u32, n: u64, out: &mut [u8]) -> usize
+    requires { ⌜ 2 < format ⌝ }
+    ensures { λ r. ⌜ Places (plain format n) (now (out .entry)) r (now (out .exit)) ⌝ }
+{
+    let count = radix::count(format, n);
+    if out.len() < count {
+        return count;
+    }
+    radix::write_before(format, n, out, count);
     count
 }
 
