@@ -85,12 +85,16 @@ pub fn write_hex(format: u32, n: u64, out: &mut [u8]) -> usize
     requires { ⌜ 2 < format ⌝ }
     ensures { λ r. ⌜ Places (plain format n) (now (out .entry)) r (now (out .exit)) ⌝ }
 {
-    let count = radix::count(format, n);
-    if out.len() < count {
-        return count;
+    let wanted = count_digits(format, n);
+    if out.len() < wanted {
+        return wanted;
     }
-    radix::write_before(format, n, out, count);
-    count
+    if format == 3 {
+        radix::write_lower_hex(n, out, wanted);
+        return wanted;
+    }
+    radix::write_upper_hex(n, out, wanted);
+    wanted
 }
 
 // Digits with what the options put around them: the whole length, and in out where that has room.
