@@ -69,8 +69,8 @@ pub fn write_bare(format: u32, n: u64, negative: bool, out: &mut [u8]) -> usize
         if out.len() < need {
             return need;
         }
-        write_digits(format, n, out, need);
         out[0] = b'-';
+        write_digits(format, n, out, need);
         return need;
     }
     if out.len() < count {
