@@ -48,16 +48,19 @@ high : (j : ℕ) → j < 64 → 2 ^ suc j ≤ 10 ^ suc (worth (suc j))
 unfolding holds
 high j h = leb-true (2 ^ suc j) (10 ^ suc (worth (suc j))) (holds-at 64 (λ (i : ℕ). leb (2 ^ suc i) (10 ^ suc (worth (suc i)))) j refl h)
 
--- an odd number is no power of ten but 1: where n is even, n + 1 has as many digits
-pub odd-length : (n : ℕ) → length (digits 10 (n / 2 * 2 + 1)) ≡ length (digits 10 n)
-odd-length n = le-antisymm (go (length (digits 10 n)) refl) (length-mono 10 ten (omega arith))
+-- an odd number is no power of an even base but 1: where n is even, n + 1 has as many digits
+pub odd-length : (c : ℕ) → 1 < c * 2 → (n : ℕ) → length (digits (c * 2) (n / 2 * 2 + 1)) ≡ length (digits (c * 2) n)
+odd-length c big n = le-antisymm (go (length (digits (c * 2) n)) refl) (length-mono (c * 2) big (omega arith))
   where
-    go : (k : ℕ) → length (digits 10 n) ≡ k → length (digits 10 (n / 2 * 2 + 1)) ≤ length (digits 10 n)
-    go zero e = absurd (let s = digits-some 10 ten n in omega arith)
+    go : (k : ℕ) → length (digits (c * 2) n) ≡ k → length (digits (c * 2) (n / 2 * 2 + 1)) ≤ length (digits (c * 2) n)
+    go zero e = absurd (let s = digits-some (c * 2) big n in omega arith)
     go (suc k) e =
-        let b : n < 10 ^ suc k = rw (← e) (below-length 10 ten n) in
-        let p = pow-suc 10 k in
-        rw e (digits-length-le 10 ten (suc k) (n / 2 * 2 + 1) (zero-lt-suc k) (omega arith))
+        let b : n < (c * 2) ^ suc k = rw (← e) (below-length (c * 2) big n) in
+        let p = pow-suc (c * 2) k in
+        rw e (digits-length-le (c * 2) big (suc k) (n / 2 * 2 + 1) (zero-lt-suc k) (omega arith))
+
+pub odd-fits : (n : ℕ) → n < 2 ^ 64 → n / 2 * 2 + 1 < 2 ^ 64
+odd-fits n h = omega arith
 
 -- the highest of at most 64 bits of x is bit j
 module _ (x j : ℕ) (h : j < 64) (l : 2 ^ j ≤ x) (u : x < 2 ^ suc j) where

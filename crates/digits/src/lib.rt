@@ -66,12 +66,9 @@ pub fn digit_count(n: u64) -> usize
     t + 1
 }
 
-// The bits that the pattern x needs: 64 less its leading zeros, but 1 for zero. So many binary digits has it.
+// The bits that the pattern x needs: 64 less the leading zeros of x | 1, which are 63 for zero. So many binary digits has it.
 pub fn bit_length(x: u64) -> u32
     ensures { λ r. ⌜ r ≡ length (digits 2 x) ⌝ }
 {
-    if x == 0 {
-        return 1;
-    }
-    64 - u64::leading_zeros(x)
+    64 - u64::leading_zeros(x / 2 * 2 + 1)
 }

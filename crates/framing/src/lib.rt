@@ -3,7 +3,7 @@
 ghost use mathlib.Core.Path.{_≡_};
 ghost use mathlib.Core.List.{List};
 ghost use mathlib.Core.Option.{none};
-ghost use Prim.Native.Nat.{ℕ, _-_, _≤_};
+ghost use Prim.Native.Nat.{ℕ, _-_, _<_, _≤_};
 ghost use lib.ListN.{length};
 ghost use Rattle.buffer.specs.AtEnd.{ended};
 ghost use Rattle.exponent.specs.Coefficient.{precisionOf, Sized, scaledText};
@@ -72,8 +72,8 @@ pub fn write_bare(format: u32, n: u64, negative: bool, out: &mut [u8]) -> usize
         if out.len() < need {
             return need;
         }
-        write_digits(format, n, out, need);
         out[0] = b'-';
+        write_digits(format, n, out, need);
         return need;
     }
     if out.len() < count {
@@ -81,6 +81,23 @@ pub fn write_bare(format: u32, n: u64, negative: bool, out: &mut [u8]) -> usize
     }
     write_digits(format, n, out, count);
     count
+}
+
+// Hex digits alone: the same by the shortest way.
+pub fn write_hex(format: u32, n: u64, out: &mut [u8]) -> usize
+    requires { ⌜ 2 < format ⌝ }
+    ensures { λ r. ⌜ Places (plain format n) (now (out .entry)) r (now (out .exit)) ⌝ }
+{
+    let wanted = count_digits(format, n);
+    if out.len() < wanted {
+        return wanted;
+    }
+    if format == 3 {
+        radix::write_lower_hex(n, out, wanted);
+        return wanted;
+    }
+    radix::write_upper_hex(n, out, wanted);
+    wanted
 }
 
 // Digits with what the options put around them: the whole length, and in out where that has room.

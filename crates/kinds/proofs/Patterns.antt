@@ -5,13 +5,13 @@ use mathlib.Core.Path.{_≡_, refl, sym, ap, _∙_}
 use mathlib.Core.Logic.{_⊎_, inl, inr}
 use Prim.Native.Nat.{ℕ, suc, _+_, _-_, _*_, _/_, _%_, _^_, _≤_, _<_}
 use native.Mathlib.Decide.{decLe}
-use native.Mathlib.Nat.{mod-eq-of-lt, pow-suc, one-mul}
+use native.Mathlib.Nat.{mod-eq-of-lt, mul-div-cancel, pow-suc, one-mul}
 use native.Mathlib.Omega.{arith}
 use borrow.Author.Tests.{ltb-true, ltb-false, lt-ltb, le-ltb, ne-eqb}
-use lib.Dec.{ltb}
+use lib.Dec.{ltb, eqb}
 use lib.IntN.{ℤ, pos, negsuc}
 use lib.Signed.{mag}
-use lib.Pow.{pow-lt, pow-mono, pow-pos, not-mod}
+use lib.Pow.{pow-lt, pow-mono, pow-pos, field, not-mod}
 use Rattle.kinds.specs.Kinds.{known, inType, pattern, reading, meaning, splitOf}
 
 -- two times half of the numbers of so many bits are all of them
@@ -77,6 +77,15 @@ module _ (w b p : ℕ) (one : 1 ≤ b) (h : b ≤ w) (fits : p < 2 ^ w) where
           let f : 2 ^ (b - 1) ≤ (2 ^ w - 1) - p = omega (arith, half, halves w (omega arith)) in
           rw (read-low w p k, le-ltb p (2 ^ (b - 1)) l, le-ltb ((2 ^ w - 1) - p) (2 ^ (b - 1)) f)
 
+-- each pattern of a word is a value of the type of so many bits
+pub in-whole : (w : ℕ) (s : Bool) (p : ℕ) → 1 ≤ w → p < 2 ^ w → inType s w (meaning w s p) ≡ true
+in-whole w false p one fits = lt-ltb p (2 ^ w) fits
+in-whole w true p one fits = go (decLe (2 ^ (w - 1)) p)
+  where
+    go : Dec (2 ^ (w - 1) ≤ p) → inType true w (reading w p) ≡ true
+    go (yes g) = rw (read-high w p g) (lt-ltb (2 ^ w - suc p) (2 ^ (w - 1)) (omega (arith, halves w one)))
+    go (no g) = rw (read-low w p (omega arith)) (lt-ltb p (2 ^ (w - 1)) (omega arith))
+
 -- half of an unsigned number is below half of the type's numbers exactly where it is below all of them
 pub in-unsigned : (b p : ℕ) → 1 ≤ b → ltb (p / 2) (2 ^ (b - 1)) ≡ inType false b (pos p)
 in-unsigned b p one = go (ltb p (2 ^ b)) refl
@@ -92,6 +101,12 @@ own-meaning w b true p one h fits t =
     let e : pattern w (reading w p) ≡ p = pattern-reading w p fits in
     ap (λ (x : ℕ). x % 2 ^ b) (sym e) ∙ own-pattern w b (reading w p) one h t
 
+-- up and down again in a word: what is left are so many bits
+pub shifted-back : (w b p : ℕ) → b ≤ w → p * 2 ^ (w - b) % 2 ^ w / 2 ^ (w - b) ≡ p % 2 ^ b
+shifted-back w b p h =
+    let e : w ≡ b + (w - b) = omega arith in
+    ap (λ (x : ℕ). p * 2 ^ (w - b) % 2 ^ x / 2 ^ (w - b)) e ∙ field (p * 2 ^ (w - b)) b (w - b) ∙ ap (λ (x : ℕ). x % 2 ^ b) (mul-div-cancel p (pow-pos (w - b)))
+
 -- a 1 that is moved b places is 2 ^ b, in a word of more places
 pub one-shifted : (w b : ℕ) → b < w → (1 * 2 ^ b) % 2 ^ w ≡ 2 ^ b
 one-shifted w b h = rw one-mul (mod-eq-of-lt (pow-lt h))
@@ -105,11 +120,14 @@ split-high w p fits h = let e : ((2 ^ w - 1) - p) + 1 ≡ suc (2 ^ w - suc p) = 
 
 -- ---- which bits are a type's
 
-pub known-yes : (b : ℕ) → (b ≡ 8) ⊎ ((b ≡ 16) ⊎ ((b ≡ 32) ⊎ (b ≡ 64))) → known b ≡ true
+pub known-yes : (b : ℕ) → (b ≡ 8) ⊎ ((b ≡ 16) ⊎ (b ≡ 32)) → known b ≡ true
 known-yes b (inl e) = ap known e
 known-yes b (inr (inl e)) = ap known e
-known-yes b (inr (inr (inl e))) = ap known e
-known-yes b (inr (inr (inr e))) = ap known e
+known-yes b (inr (inr e)) = ap known e
 
-pub known-no : (b : ℕ) → ((b ≡ 8) ⊎ ((b ≡ 16) ⊎ ((b ≡ 32) ⊎ (b ≡ 64))) → ⊥) → known b ≡ false
-known-no b h = rw (ne-eqb b 8 (λ e. h (inl e)), ne-eqb b 16 (λ e. h (inr (inl e))), ne-eqb b 32 (λ e. h (inr (inr (inl e)))), ne-eqb b 64 (λ e. h (inr (inr (inr e)))))
+pub known-no : (b : ℕ) → b ≤ 63 → ((b ≡ 8) ⊎ ((b ≡ 16) ⊎ (b ≡ 32)) → ⊥) → known b ≡ false
+known-no b l h = rw (ne-eqb b 8 (λ e. h (inl e)), ne-eqb b 16 (λ e. h (inr (inl e))), ne-eqb b 32 (λ e. h (inr (inr e))), ne-eqb b 64 (λ e. omega arith))
+
+-- beyond 63 only 64
+pub known-beyond : (b : ℕ) → 63 < b → eqb b 64 ≡ known b
+known-beyond b l = rw (ne-eqb b 8 (λ e. omega arith), ne-eqb b 16 (λ e. omega arith), ne-eqb b 32 (λ e. omega arith))

@@ -17,21 +17,27 @@ pub struct Split {
     pub magnitude: u64,
 }
 
-// Whether the bits are those of a type.
+// Whether the bits are those of a type. Most calls are for 64 of them: one comparison tells those apart from the rest.
 pub fn is_known(bits: u32) -> bool
     ensures { λ r. ⌜ r ≡ known bits ⌝ }
 {
+    if 63 < bits {
+        return bits == 64;
+    }
     match bits {
-        8 | 16 | 32 | 64 => true,
+        8 | 16 | 32 => true,
         _ => false,
     }
 }
 
-// Whether the 64-bit pattern p is a value of the type.
+// Whether the 64-bit pattern p is a value of the type: of one of 64 bits each is.
 pub fn in_type(signed: bool, bits: u32, p: u64) -> bool
     requires { ⌜ (1 ≤ bits) × (bits ≤ 64) ⌝ }
     ensures { λ r. ⌜ r ≡ inType signed bits (meaning 64 signed p) ⌝ }
 {
+    if 63 < bits {
+        return true;
+    }
     let half = 1u64 << (bits - 1);
     if signed {
         if p < half {
@@ -109,10 +115,8 @@ pub fn own_pattern(signed: bool, bits: u32, p: u64) -> u64
     requires { ⌜ (1 ≤ bits) × (bits ≤ 64) × (inType signed bits (meaning 64 signed p) ≡ true) ⌝ }
     ensures { λ r. ⌜ r ≡ pattern bits (meaning 64 signed p) ⌝ }
 {
-    if bits < 64 {
-        return p % (1u64 << bits);
-    }
-    p
+    let spare = 64 - bits;
+    (p << spare) >> spare
 }
 
 pub struct U8;

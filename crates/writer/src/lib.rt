@@ -23,6 +23,9 @@ fn write_plainly(signed: bool, bits: u32, value: u64, format: u32, out: &mut [u8
         return framing::write_bare(format, split.magnitude, split.negative, out);
     }
     let pattern = kinds::own_pattern(signed, bits, value);
+    if 2 < format {
+        return framing::write_hex(format, pattern, out);
+    }
     framing::write_bare(format, pattern, false, out)
 }
 

@@ -1,13 +1,13 @@
 -- `digits::digit_count` meets its contract: the digits that the bits of n | 1 are worth, or one more. Assumes nothing.
 use mathlib.Core.Path.{_≡_, refl, sym, _∙_}
-use Prim.Native.Nat.{ℕ, _+_, _*_, _/_, _^_, _<_}
+use Prim.Native.Nat.{ℕ, _+_, _*_, _/_, _<_}
 use native.Mathlib.Omega.{arith}
 use lib.Count.{leading-le}
 use lib.Dec.{lit<}
 use lib.ListN.{length}
 use Rattle.digits.specs.Digits.{digits}
 use Rattle.digits.specs.Text.{ascii, decimal}
-use Rattle.digits.proofs.Count.{odd-length, count-less, count-more}
+use Rattle.digits.proofs.Count.{odd-length, odd-fits, count-less, count-more}
 use Rattle.digits.proofs.Text.{length-text}
 use borrow.Author.Needs.{needs}
 use Rattle.digits.proofs.digit_count.Statement.{statement}
@@ -33,16 +33,13 @@ power-requires c κs = search needs
 
 -- n | 1 has as many digits
 same : (n : ℕ) → length (digits 10 (n / 2 * 2 + 1)) ≡ length (decimal n)
-same n = odd-length n ∙ sym (length-text ascii 10 (lit< tt) n)
-
-fits : (n : ℕ) → n < 2 ^ 64 → n / 2 * 2 + 1 < 2 ^ 64
-fits n h = omega arith
+same n = odd-length 5 (lit< tt) n ∙ sym (length-text ascii 10 (lit< tt) n)
 
 returns : tie.Need-returns
 returns c =
     let s = c .before .before in
     let n = s .args .n in
-    count-less (n / 2 * 2 + 1) (omega arith) (fits n (s .fits .n .fits)) _ refl (rw (← c .before .power .ensures) (c .if1 .taken)) ∙ same n
+    count-less (n / 2 * 2 + 1) (omega arith) (odd-fits n (s .fits .n .fits)) _ refl (rw (← c .before .power .ensures) (c .if1 .taken)) ∙ same n
 
 add-result : tie.Need-add-result
 add-result c = search needs
@@ -51,7 +48,7 @@ returns-2 : tie.Need-returns-2
 returns-2 c =
     let s = c .before .before in
     let n = s .args .n in
-    count-more (n / 2 * 2 + 1) (omega arith) (fits n (s .fits .n .fits)) _ refl (rw (← c .before .power .ensures) (c .if1 .left)) ∙ same n
+    count-more (n / 2 * 2 + 1) (omega arith) (odd-fits n (s .fits .n .fits)) _ refl (rw (← c .before .power .ensures) (c .if1 .left)) ∙ same n
 
 pub digit-count-spec : {M : Type 1} → statement M
 digit-count-spec =

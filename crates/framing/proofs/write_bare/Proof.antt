@@ -1,17 +1,27 @@
 -- `framing::write_bare` meets its contract. Assumes nothing.
 use mathlib.Core.Bool.{Bool}
-use mathlib.Core.List.{_∷_}
-use mathlib.Core.Path.{_≡_, ap}
-use Prim.Native.Nat.{_+_}
+use mathlib.Core.List.{List, _∷_, append-assoc}
+use mathlib.Core.Path.{_≡_, ap, _∙_}
+use Prim.Native.Nat.{ℕ, suc, _+_, _-_, _≤_}
 use native.Mathlib.Omega.{arith}
-use lib.ListN.{set}
-use Rattle.buffer.proofs.AtEnd.{ended-front}
+use lib.ListN.{length, set, length-set}
+use lib.Seq.{take-suc-set, drop-set-lt}
+use Rattle.buffer.specs.AtEnd.{ended}
+use Rattle.buffer.proofs.AtEnd.{length-ended}
 use Rattle.writing.specs.Text.{bare, plain}
 use Rattle.writing.proofs.Cases.{lacks-room, has-room}
 use Rattle.framing.proofs.Laid.{plain-few}
 use borrow.Author.Needs.{needs}
 use Rattle.framing.proofs.write_bare.Statement.{statement}
 use Rattle.framing.proofs.write_bare.Tie as tie
+
+-- a byte in front, and then a text behind it
+behind-front : (l : List ℕ) (o e x : ℕ) (t : List ℕ) → o + length (x ∷ t) ≡ e → e ≤ length l → ended (set l o x) e t ≡ ended l e (x ∷ t)
+unfolding ended
+behind-front l o e x t i k =
+    let q : e - length t ≡ suc o = omega arith in
+    let q′ : e - length (x ∷ t) ≡ o = omega arith in
+    rw (q, q′, take-suc-set l o x (omega arith), drop-set-lt e l o x (omega arith), append-assoc)
 
 count-digits-requires : tie.Need-count-digits-requires
 count-digits-requires c κs = search needs
@@ -33,14 +43,21 @@ returns c =
     let n = t .before .count-digits in
     rw (below t) (lacks-room (45 ∷ plain (a .format) (a .n)) (a .out .now) (n .result + 1) (omega (arith, n .ensures)) (c .if2 .taken))
 
-write-digits-requires : tie.Need-write-digits-requires
-write-digits-requires c κs = search needs
-
 slice-write-out : tie.Need-slice-write-out
 slice-write-out c = search needs
 
+write-digits-requires : tie.Need-write-digits-requires
+write-digits-requires c κs =
+    let e = c .before in
+    (omega (arith, e .before .before .count-digits .ensures), simp length-set (e .if2 .left))
+
 same-length : tie.Need-same-length
-same-length c = search needs
+same-length c =
+    let e = c .before .before .before .before in
+    let n = e .before .before .count-digits in
+    let a = e .before .before .before .before .args in
+    let q = length-ended (set (a .out .now) 0 45) (n .result + 1) (plain (a .format) (a .n)) (omega (arith, n .ensures)) (simp length-set (e .if2 .left)) in
+    rw (c .before .before .write-digits .ensures .1) (simp length-set at q)
 
 returns-2 : tie.Need-returns-2
 returns-2 c =
@@ -51,8 +68,8 @@ returns-2 c =
     let w = c .before .before .write-digits in
     let d = plain (a .format) (a .n) in
     rw (below t)
-    (has-room (45 ∷ d) (a .out .now) (n .result + 1) (omega (arith, n .ensures)) (set (w .last .1 .1 .0) 0 45) (e .if2 .left)
-    (rw (w .ensures .1) (ended-front (a .out .now) 0 (n .result + 1) 45 d (omega (arith, n .ensures)) (e .if2 .left))))
+    (has-room (45 ∷ d) (a .out .now) (n .result + 1) (omega (arith, n .ensures)) (w .last .1 .1 .0) (e .if2 .left)
+    (w .ensures .1 ∙ behind-front (a .out .now) 0 (n .result + 1) 45 d (omega (arith, n .ensures)) (e .if2 .left)))
 
 returns-3 : tie.Need-returns-3
 returns-3 c =
@@ -83,8 +100,8 @@ write-bare-spec =
     count-digits-requires
     add-need
     returns
-    write-digits-requires
     slice-write-out
+    write-digits-requires
     same-length
     returns-2
     returns-3
