@@ -1,0 +1,2 @@
+-- Laws of texts of hex digits.
+pub mod Splices
