@@ -102,7 +102,7 @@ fn read_any(kind: Kind, format: u32, text: &[u8]) -> Answer
     }
 }
 
-// A plain text back to its value. What most calls hand over, a short decimal text, is read at once; its answer stays in registers,
+// A plain text back to its value. What most calls hand over, a short text in decimal or hex, is read at once; its answer stays in registers,
 // since those of read_any are copied out of memory only where it is called.
 #[no_mangle]
 pub extern "C" fn lgv_read(bits: u32, is_signed: u32, format: u32, text: &[u8]) -> Answer
@@ -112,18 +112,11 @@ pub extern "C" fn lgv_read(bits: u32, is_signed: u32, format: u32, text: &[u8]) 
         bits,
         signed: is_signed != 0,
     };
-    if format == 0 {
-        let found = reader::read_short(kind, text);
-        if found.done {
-            return Answer {
-                number: 0,
-                value: found.value,
-            };
-        }
-        let any = read_any(kind, format, text);
+    let found = reader::read_short(kind, format, text);
+    if found.done {
         return Answer {
-            number: any.number,
-            value: any.value,
+            number: 0,
+            value: found.value,
         };
     }
     let any = read_any(kind, format, text);

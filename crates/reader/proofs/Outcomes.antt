@@ -54,6 +54,11 @@ module _ (sgn : Bool) (bits code : ℕ) (t : List ℕ) where
 pub at-code : (sgn : Bool) (bits : ℕ) (t : List ℕ) (r : Outcome) (k code : ℕ) → code ≡ k → Judges (form sgn bits k) sgn bits t r → Judges (form sgn bits code) sgn bits t r
 at-code sgn bits t r k code e j = subst (λ (i : ℕ). Judges (form sgn bits i) sgn bits t r) (sym e) j
 
+-- and its answer where a value was found
+pub coded : (sgn : Bool) (bits code : ℕ) (t : List ℕ) (k : ℕ) {v : ℕ} → code ≡ k → k ≤ 6 → known bits ≡ true → 0 < length t → Judges (form sgn bits k) sgn bits t (outcome.Done v)
+    → Answers sgn bits code t (outcome.Done v)
+coded sgn bits code t k {v} e c n s j = passed sgn bits code t (outcome.Done v) n (omega arith) s (at-code sgn bits t (outcome.Done v) k code e j)
+
 -- the value of a decimal text is the answer to reading it
 pub short-answer : (sgn : Bool) (bits : ℕ) (t : List ℕ) {m : Bool} {v x : ℕ} → known bits ≡ true → 0 < length t → IsNumber sgn lower 10 t m v false → outcome.Done x ≡ ofValue sgn bits (whole m v)
     → Answers sgn bits 0 t (outcome.Done x)
