@@ -91,10 +91,17 @@ pub extern "C" fn lgv_write_short(
     }
 }
 
-// Any text back to its value, or why it has none.
+// Any text back to its value, or why it has none. A short one in hex is read at once.
 fn read_any(kind: Kind, format: u32, text: &[u8]) -> Answer
     ensures { λ r. ⌜ Reads (kind .signed) (kind .bits) format (now (text .entry)) (r .number) (r .value) ⌝ }
 {
+    let short = reader::read_short_hex(kind, format, text);
+    if short.done {
+        return Answer {
+            number: 0,
+            value: short.value,
+        };
+    }
     let found = reader::read(kind, format, text);
     Answer {
         number: found.number() as u64,
@@ -102,7 +109,7 @@ fn read_any(kind: Kind, format: u32, text: &[u8]) -> Answer
     }
 }
 
-// A plain text back to its value. What most calls hand over, a short text in decimal or hex, is read at once; its answer stays in registers,
+// A plain text back to its value. What most calls hand over, a short decimal text, is read at once; its answer stays in registers,
 // since those of read_any are copied out of memory only where it is called.
 #[no_mangle]
 pub extern "C" fn lgv_read(bits: u32, is_signed: u32, format: u32, text: &[u8]) -> Answer
@@ -112,11 +119,18 @@ pub extern "C" fn lgv_read(bits: u32, is_signed: u32, format: u32, text: &[u8]) 
         bits,
         signed: is_signed != 0,
     };
-    let found = reader::read_short(kind, format, text);
-    if found.done {
+    if format == 0 {
+        let found = reader::read_short(kind, text);
+        if found.done {
+            return Answer {
+                number: 0,
+                value: found.value,
+            };
+        }
+        let any = read_any(kind, format, text);
         return Answer {
-            number: 0,
-            value: found.value,
+            number: any.number,
+            value: any.value,
         };
     }
     let any = read_any(kind, format, text);

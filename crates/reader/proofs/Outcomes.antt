@@ -4,6 +4,7 @@ use mathlib.Core.Bool.{Bool, true, false, false≢true, _||_}
 use mathlib.Core.List.{List, []}
 use mathlib.Core.Path.{_≡_, refl, sym, ap, _∙_, subst}
 use Prim.Native.Nat.{ℕ, _≤_, _<_}
+use native.Mathlib.Decide.{decLe}
 use native.Mathlib.Nat.{lt-of-le-of-lt}
 use native.Mathlib.Omega.{arith}
 use borrow.Author.Tests.{eqb-true}
@@ -13,8 +14,8 @@ use lib.ListN.{length}
 use lib.Pow.{pow-mono}
 use Rattle.kinds.specs.Kinds.{known, inType, pattern}
 use Rattle.reading.specs.Form.{Form}
-use Rattle.radix.specs.Radix.{lower}
-use Rattle.reading.specs.Formats.{whole, form, plain}
+use Rattle.radix.specs.Radix.{digitByte, lower}
+use Rattle.reading.specs.Formats.{whole, radixForm, form, plain}
 use Rattle.reading.proofs.Place.{one-place}
 use Rattle.reading.proofs.Faithful.{Faithful, faithful, plain-some}
 use Rattle.reading.proofs.Judged.{plain-accepted, accepted-plain, one-value, not-both, not-outside}
@@ -54,10 +55,18 @@ module _ (sgn : Bool) (bits code : ℕ) (t : List ℕ) where
 pub at-code : (sgn : Bool) (bits : ℕ) (t : List ℕ) (r : Outcome) (k code : ℕ) → code ≡ k → Judges (form sgn bits k) sgn bits t r → Judges (form sgn bits code) sgn bits t r
 at-code sgn bits t r k code e j = subst (λ (i : ℕ). Judges (form sgn bits i) sgn bits t r) (sym e) j
 
--- and its answer where a value was found
-pub coded : (sgn : Bool) (bits code : ℕ) (t : List ℕ) (k : ℕ) {v : ℕ} → code ≡ k → k ≤ 6 → known bits ≡ true → 0 < length t → Judges (form sgn bits k) sgn bits t (outcome.Done v)
-    → Answers sgn bits code t (outcome.Done v)
-coded sgn bits code t k {v} e c n s j = passed sgn bits code t (outcome.Done v) n (omega arith) s (at-code sgn bits t (outcome.Done v) k code e j)
+-- the value of a hex text is the answer to reading it: its letters are those of the code
+pub hex-answer : (sgn : Bool) (bits code : ℕ) (t : List ℕ) (letter : ℕ) {v : ℕ} → 3 ≤ code → code ≤ 4 → (code ≡ 3 → letter ≡ 97) → (code ≡ 4 → letter ≡ 65) → known bits ≡ true → 0 < length t
+    → Judges (radixForm (digitByte letter) 16 bits) sgn bits t (outcome.Done v) → Answers sgn bits code t (outcome.Done v)
+unfolding form
+hex-answer sgn bits code t letter {v} least most small capital n s j = passed sgn bits code t (outcome.Done v) n (omega arith) s (go (decLe code 3))
+  where
+    with-letter : (l : ℕ) → letter ≡ l → Judges (radixForm (digitByte l) 16 bits) sgn bits t (outcome.Done v)
+    with-letter l e = subst (λ (x : ℕ). Judges (radixForm (digitByte x) 16 bits) sgn bits t (outcome.Done v)) e j
+
+    go : Dec (code ≤ 3) → Judges (form sgn bits code) sgn bits t (outcome.Done v)
+    go (yes h) = let e : code ≡ 3 = omega arith in at-code sgn bits t (outcome.Done v) 3 code e (with-letter 97 (small e))
+    go (no h) = let e : code ≡ 4 = omega arith in at-code sgn bits t (outcome.Done v) 4 code e (with-letter 65 (capital e))
 
 -- the value of a decimal text is the answer to reading it
 pub short-answer : (sgn : Bool) (bits : ℕ) (t : List ℕ) {m : Bool} {v x : ℕ} → known bits ≡ true → 0 < length t → IsNumber sgn lower 10 t m v false → outcome.Done x ≡ ofValue sgn bits (whole m v)

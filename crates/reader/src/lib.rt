@@ -145,8 +145,8 @@ fn of_short(signed: bool, bits: u32, minus: bool, n: u64) -> Quick
     value_only(of_magnitude(signed, bits, minus, n))
 }
 
-// A decimal text of up to 20 digits at once. The widest types come first, where less is to be tested.
-fn short_decimal(kind: Kind, text: &[u8]) -> Quick
+// A decimal text of up to 20 digits at once. Where that gives no value, `read` says why. The widest types come first, where less is to be tested.
+pub fn read_short(kind: Kind, text: &[u8]) -> Quick
     ensures { λ r. ⌜ Told (kind .signed) (kind .bits) 0 (now (text .entry)) r ⌝ }
 {
     if text.len() == 0 {
@@ -200,21 +200,31 @@ fn short_hex(kind: Kind, letter: u8, text: &[u8]) -> Quick
     }
 }
 
-// A short text in decimal or hex at once. Where that gives no value, `read` says why.
-pub fn read_short(kind: Kind, format: u32, text: &[u8]) -> Quick
+// The first letter by the code of hex: small, capital.
+fn first_letter(format: u32) -> u8
+    ensures { λ r. ⌜ (57 < r) × (r ≤ 97) × ((format ≡ 3 → r ≡ 97)) × ((format ≡ 4 → r ≡ 65)) ⌝ }
+{
+    if format == 3 {
+        return b'a';
+    }
+    b'A'
+}
+
+// A short text in hex at once, as read_short; in the other formats nothing is said.
+pub fn read_short_hex(kind: Kind, format: u32, text: &[u8]) -> Quick
     ensures { λ r. ⌜ Told (kind .signed) (kind .bits) format (now (text .entry)) r ⌝ }
 {
-    if format == 0 {
-        return short_decimal(kind, text);
+    if format < 3 {
+        return Quick {
+            done: false,
+            value: 0,
+        };
     }
-    if format == 3 {
-        return short_hex(kind, b'a', text);
+    if 4 < format {
+        return Quick {
+            done: false,
+            value: 0,
+        };
     }
-    if format == 4 {
-        return short_hex(kind, b'A', text);
-    }
-    Quick {
-        done: false,
-        value: 0,
-    }
+    short_hex(kind, first_letter(format), text)
 }

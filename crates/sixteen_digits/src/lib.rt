@@ -4,15 +4,14 @@ ghost use mathlib.Core.Bool.{true};
 ghost use mathlib.Core.Path.{_≡_};
 ghost use Prim.Native.Nat.{_+_, _*_, _-_, _/_, _%_, _^_, _≤_, _<_};
 ghost use lib.ListN.{length};
+ghost use Rattle.digits.specs.Digits.{value, Below};
 ghost use Rattle.digits.specs.Text.{text, lastText};
 ghost use Rattle.lanes.specs.Letters.{digitByte};
 ghost use Rattle.sixteen_digits.specs.Hex.{Digits};
 ghost use Rattle.words.specs.Bytes.{bytesOf};
+use digit_words::NONE;
 use words::load4;
 use words::load8;
-
-// No number: the greatest of 64 bits.
-const NONE: u64 = 0xffff_ffff_ffff_ffff;
 
 // The number that a text stands for, where it is known.
 pub struct Number {
@@ -27,25 +26,38 @@ fn nibbles(u: u64) -> u64
     (u & 0x0f0f_0f0f_0f0f_0f0f) + ((u >> 6) & 0x0101_0101_0101_0101) * 9
 }
 
-// The number of eight such.
-fn guess(w: u64) -> u64
-    ensures { λ r. ⌜ r < 4294967296 ⌝ }
+// The text of eight digits, one a byte. Six more carry a digit from ten on into the next bit: there the step from `:` (58) to the letter is added.
+fn letters(w: u64, letter: u64) -> u64
+    requires { ⌜ (Below 16 (bytesOf 8 w)) × (57 < letter) × (letter ≤ 97) ⌝ }
+    ensures { λ r. ⌜ bytesOf 8 r ≡ lastText (digitByte letter) 16 8 (value 16 (bytesOf 8 w)) ⌝ }
 {
-    let p = ((w << 4) | (w >> 8)) & 0x00ff_00ff_00ff_00ff;
-    let q = ((p << 8) | (p >> 16)) & 0x0000_ffff_0000_ffff;
-    ((q << 16) | (q >> 32)) % 4294967296
+    let tens = ((w + 0x0606_0606_0606_0606) >> 4) & 0x0101_0101_0101_0101;
+    w + 0x3030_3030_3030_3030 + tens * (letter - 58)
 }
 
-// The number of eight bytes that are digits with these letters, or NONE.
+// The number of eight digits: in pairs, in fours, and all.
+fn gather(w: u64) -> u64
+    requires { ⌜ Below 16 (bytesOf 8 w) ⌝ }
+    ensures { λ r. ⌜ (r ≡ value 16 (bytesOf 8 w)) × (r < 4294967296) ⌝ }
+{
+    let p = (w * 16 + (w >> 8)) & 0x00ff_00ff_00ff_00ff;
+    let q = (p * 256 + (p >> 16)) & 0x0000_ffff_0000_ffff;
+    (q % 4294967296) * 65536 + (q >> 32)
+}
+
+// The number of eight bytes that are digits with these letters, or NONE. Digits whose text is the bytes are theirs.
 fn eight(u: u64, letter: u64) -> u64
     requires { ⌜ (57 < letter) × (letter ≤ 97) ⌝ }
     ensures { λ r. ⌜ ((r ≡ 0xffff_ffff_ffff_ffff → ⊥) → (bytesOf 8 u ≡ lastText (digitByte letter) 16 8 r) × (r < 4294967296)) ⌝ }
 {
-    let n = guess(nibbles(u));
-    if lanes::eight(letter, n) == u {
-        return n;
+    let w = nibbles(u);
+    if w & 0xf0f0_f0f0_f0f0_f0f0 != 0 {
+        return NONE;
     }
-    NONE
+    if letters(w, letter) != u {
+        return NONE;
+    }
+    gather(w)
 }
 
 fn wide(byte: u8) -> u64
