@@ -21,10 +21,10 @@ use Rattle.reading.proofs.Faithful.{Faithful, faithful, plain-some}
 use Rattle.reading.proofs.Judged.{plain-accepted, accepted-plain, one-value, not-both, not-outside}
 use Rattle.whole_texts.specs.Wholes.{IsNumber}
 use Rattle.reader.specs.Answers.{Judges, Passes, Answers}
-use Rattle.outcomes.specs.Outcomes.{numberOf, ofValue}
+use Rattle.outcomes.specs.Outcomes.{numberOf, ofValue, ofPattern}
 use Rattle.outcomes.specs.declared.Outcome.{Outcome}
 use Rattle.outcomes.specs.declared.Outcome.the-variants as outcome
-use Rattle.reader.proofs.Answers.{decimal-held}
+use Rattle.reader.proofs.Answers.{decimal-held, radix-held}
 
 -- a known type has 8 to 64 bits
 pub known-bits : (bits : ℕ) → known bits ≡ true → (1 ≤ bits) × (bits ≤ 64)
@@ -55,7 +55,12 @@ module _ (sgn : Bool) (bits code : ℕ) (t : List ℕ) where
 pub at-code : (sgn : Bool) (bits : ℕ) (t : List ℕ) (r : Outcome) (k code : ℕ) → code ≡ k → Judges (form sgn bits k) sgn bits t r → Judges (form sgn bits code) sgn bits t r
 at-code sgn bits t r k code e j = subst (λ (i : ℕ). Judges (form sgn bits i) sgn bits t r) (sym e) j
 
--- the value of a hex text is the answer to reading it: its letters are those of the code
+-- the value of a hex text
+pub hex-held : (sgn : Bool) (bits : ℕ) (t : List ℕ) (letter : ℕ) {v x : ℕ} → known bits ≡ true → 0 < length t → IsNumber false (digitByte letter) 16 t false v false → outcome.Done x ≡ ofPattern sgn bits v
+    → (known bits ≡ true) × (0 < length t) × Judges (radixForm (digitByte letter) 16 bits) sgn bits t (outcome.Done x)
+hex-held sgn bits t letter k s N e = let b = known-bits bits k in (k, s, radix-held sgn bits t (b .0) (b .1) (digitByte letter) 16 N refl e)
+
+-- it is the answer to reading it: its letters are those of the code
 pub hex-answer : (sgn : Bool) (bits code : ℕ) (t : List ℕ) (letter : ℕ) {v : ℕ} → 3 ≤ code → code ≤ 4 → (code ≡ 3 → letter ≡ 97) → (code ≡ 4 → letter ≡ 65) → known bits ≡ true → 0 < length t
     → Judges (radixForm (digitByte letter) 16 bits) sgn bits t (outcome.Done v) → Answers sgn bits code t (outcome.Done v)
 unfolding form

@@ -187,10 +187,13 @@ fn short_hex(kind: Kind, letter: u8, text: &[u8]) -> Quick
             value: 0,
         };
     }
-    let bits = kind.bits;
-    if kinds::is_known(bits) {
-        let found = find_hex(text, letter);
-        if found.known {
+    let found = find_hex(text, letter);
+    if found.known {
+        let bits = kind.bits;
+        if bits == 64 {
+            return value_only(of_pattern(kind.signed, 64, found.value));
+        }
+        if kinds::is_known(bits) {
             return value_only(of_pattern(kind.signed, bits, found.value));
         }
     }
