@@ -54,6 +54,15 @@ module _ (k a r : ℕ) (l : r < 256) (e : bitAnd (a * 256 + r) (mask (suc k)) �
   lowest : r < 16
   lowest = none r l (omega (arith, both))
 
+-- where the upper halves are empty, each byte is below 16
+pub halved : (k w : ℕ) → bitAnd w (mask k) ≡ 0 → Below 16 (bytesOf k w)
+unfolding Below bytesOf
+halved zero w e = tt
+halved (suc k) w e =
+    let l : w % 256 < 256 = mod-lt w (lit< tt) in
+    let f : bitAnd (w / 256 * 256 + w % 256) (mask (suc k)) ≡ 0 = ap (λ (x : ℕ). bitAnd x (mask (suc k))) (div-add-mod' w 256) ∙ e in
+    (lowest k (w / 256) (w % 256) l f, halved k (w / 256) (rest k (w / 256) (w % 256) l f))
+
 -- where the upper halves are empty, a sum with 6 in each byte stays in its bytes
 pub no-carry : (k w : ℕ) → w < 256 ^ k → bitAnd w (mask k) ≡ 0 → w + sixes k < 256 ^ k
 unfolding sixes

@@ -18,7 +18,7 @@ lane : (a l b : ℕ) → l < 65536 → bitAnd (a * 65536 + l) (b * 65536 + 255) 
 lane a l b h = and-block 16 a b l 255 h (lit< tt) ∙ ap (λ (y : ℕ). bitAnd a b * 65536 + y) (and-mask l 8)
 
 -- the first of each two bytes
-evens : (e0 e1 e2 e3 e4 e5 e6 e7 : ℕ) → e0 < 256 → e1 < 256 → e2 < 256 → e3 < 256 → e4 < 256 → e5 < 256 → e6 < 256 → e7 < 256
+pub evens : (e0 e1 e2 e3 e4 e5 e6 e7 : ℕ) → e0 < 256 → e1 < 256 → e2 < 256 → e3 < 256 → e4 < 256 → e5 < 256 → e6 < 256 → e7 < 256
     → bitAnd ((((e7 * 256 + e6) * 65536 + (e5 * 256 + e4)) * 65536 + (e3 * 256 + e2)) * 65536 + (e1 * 256 + e0)) 0x00ff_00ff_00ff_00ff ≡ ((e6 * 65536 + e4) * 65536 + e2) * 65536 + e0
 evens e0 e1 e2 e3 e4 e5 e6 e7 h0 h1 h2 h3 h4 h5 h6 h7 =
     let m0 : (e1 * 256 + e0) % 256 ≡ e0 = mod-is e1 e0 256 refl h0 in
@@ -29,7 +29,7 @@ evens e0 e1 e2 e3 e4 e5 e6 e7 h0 h1 h2 h3 h4 h5 h6 h7 =
     let s1 = lane ((e7 * 256 + e6) * 65536 + (e5 * 256 + e4)) (e3 * 256 + e2) 0x00ff_00ff (omega arith) ∙ ap₂ (λ (x y : ℕ). x * 65536 + y) s2 m2 in
     lane (((e7 * 256 + e6) * 65536 + (e5 * 256 + e4)) * 65536 + (e3 * 256 + e2)) (e1 * 256 + e0) 0x00ff_00ff_00ff (omega arith) ∙ ap₂ (λ (x y : ℕ). x * 65536 + y) s1 m0
 
-abbrev word : (d0 d1 d2 d3 d4 d5 d6 d7 : ℕ) → ℕ
+abbrev pub word : (d0 d1 d2 d3 d4 d5 d6 d7 : ℕ) → ℕ
 word d0 d1 d2 d3 d4 d5 d6 d7 = (((((((d7 * 256 + d6) * 256 + d5) * 256 + d4) * 256 + d3) * 256 + d2) * 256) + d1) * 256 + d0
 
 abbrev pub pairs : (e0 e2 e4 e6 : ℕ) → ℕ
@@ -89,7 +89,7 @@ less : (w n : ℕ) → w < n * 256 → w / 256 < n
 less w n h = omega (arith, div-add-mod' w 256)
 
 -- the eight bytes of w
-spelt : (w : ℕ) → w < 2 ^ 64
+pub spelt : (w : ℕ) → w < 2 ^ 64
     → w ≡ word (w % 256) (w / 256 % 256) (w / 256 / 256 % 256) (w / 256 / 256 / 256 % 256) (w / 256 / 256 / 256 / 256 % 256) (w / 256 / 256 / 256 / 256 / 256 % 256)
     (w / 256 / 256 / 256 / 256 / 256 / 256 % 256) (w / 256 / 256 / 256 / 256 / 256 / 256 / 256 % 256)
 spelt w h =

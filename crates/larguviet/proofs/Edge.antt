@@ -2,9 +2,11 @@
 -- Assumes nothing.
 use mathlib.Core.Bool.{Bool}
 use mathlib.Core.List.{List}
-use mathlib.Core.Path.{_≡_, sym, ap, _∙_}
+use mathlib.Core.Path.{_≡_, refl, sym, ap, _∙_}
 use Prim.Native.Nat.{ℕ}
 use Rattle.outcomes.specs.Outcomes.{numberOf, valueOf}
+use Rattle.outcomes.specs.declared.Outcome.the-variants.{Done}
+use Rattle.reader.specs.Answers as answers
 use Rattle.reader.proofs.Outcomes as Outcomes
 use Rattle.writing.specs.Promise.{number, value, Writes}
 use Rattle.writing.specs.declared.Written.{Written}
@@ -20,3 +22,7 @@ pub one-reading : {sgn : Bool} {bits format : ℕ} {t : List ℕ} {n v m w : ℕ
 one-reading {sgn} {bits} {format} {t} p q =
     let e : p .outcome ≡ q .outcome = Outcomes.one-answer sgn bits format t (p .outcome) (q .outcome) (p .is) (q .is) in
     (p .numbered ∙ ap numberOf e ∙ sym (q .numbered), p .returns ∙ ap valueOf e ∙ sym (q .returns))
+
+-- a value that was told at once
+pub at-once : {sgn : Bool} {bits format : ℕ} {t : List ℕ} {v : ℕ} → answers.Answers sgn bits format t (Done v) → Reads sgn bits format t 0 v
+at-once {v = v} a = record { outcome = Done v; is = a; numbered = refl; returns = refl }

@@ -91,10 +91,17 @@ pub extern "C" fn lgv_write_short(
     }
 }
 
-// Any text back to its value, or why it has none.
+// Any text back to its value, or why it has none. A short one in hex is read at once.
 fn read_any(kind: Kind, format: u32, text: &[u8]) -> Answer
     ensures { λ r. ⌜ Reads (kind .signed) (kind .bits) format (now (text .entry)) (r .number) (r .value) ⌝ }
 {
+    let short = reader::read_short_hex(kind, format, text);
+    if short.done {
+        return Answer {
+            number: 0,
+            value: short.value,
+        };
+    }
     let found = reader::read(kind, format, text);
     Answer {
         number: found.number() as u64,

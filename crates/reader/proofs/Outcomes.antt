@@ -4,6 +4,7 @@ use mathlib.Core.Bool.{Bool, true, false, false≢true, _||_}
 use mathlib.Core.List.{List, []}
 use mathlib.Core.Path.{_≡_, refl, sym, ap, _∙_, subst}
 use Prim.Native.Nat.{ℕ, _≤_, _<_}
+use native.Mathlib.Decide.{decLe}
 use native.Mathlib.Nat.{lt-of-le-of-lt}
 use native.Mathlib.Omega.{arith}
 use borrow.Author.Tests.{eqb-true}
@@ -13,17 +14,17 @@ use lib.ListN.{length}
 use lib.Pow.{pow-mono}
 use Rattle.kinds.specs.Kinds.{known, inType, pattern}
 use Rattle.reading.specs.Form.{Form}
-use Rattle.radix.specs.Radix.{lower}
-use Rattle.reading.specs.Formats.{whole, form, plain}
+use Rattle.radix.specs.Radix.{digitByte, lower}
+use Rattle.reading.specs.Formats.{whole, radixForm, form, plain}
 use Rattle.reading.proofs.Place.{one-place}
 use Rattle.reading.proofs.Faithful.{Faithful, faithful, plain-some}
 use Rattle.reading.proofs.Judged.{plain-accepted, accepted-plain, one-value, not-both, not-outside}
 use Rattle.whole_texts.specs.Wholes.{IsNumber}
 use Rattle.reader.specs.Answers.{Judges, Passes, Answers}
-use Rattle.outcomes.specs.Outcomes.{numberOf, ofValue}
+use Rattle.outcomes.specs.Outcomes.{numberOf, ofValue, ofPattern}
 use Rattle.outcomes.specs.declared.Outcome.{Outcome}
 use Rattle.outcomes.specs.declared.Outcome.the-variants as outcome
-use Rattle.reader.proofs.Answers.{decimal-held}
+use Rattle.reader.proofs.Answers.{decimal-held, radix-held}
 
 -- a known type has 8 to 64 bits
 pub known-bits : (bits : ℕ) → known bits ≡ true → (1 ≤ bits) × (bits ≤ 64)
@@ -53,6 +54,24 @@ module _ (sgn : Bool) (bits code : ℕ) (t : List ℕ) where
 -- the format by its code
 pub at-code : (sgn : Bool) (bits : ℕ) (t : List ℕ) (r : Outcome) (k code : ℕ) → code ≡ k → Judges (form sgn bits k) sgn bits t r → Judges (form sgn bits code) sgn bits t r
 at-code sgn bits t r k code e j = subst (λ (i : ℕ). Judges (form sgn bits i) sgn bits t r) (sym e) j
+
+-- the value of a hex text
+pub hex-held : (sgn : Bool) (bits : ℕ) (t : List ℕ) (letter : ℕ) {v x : ℕ} → known bits ≡ true → 0 < length t → IsNumber false (digitByte letter) 16 t false v false → outcome.Done x ≡ ofPattern sgn bits v
+    → (known bits ≡ true) × (0 < length t) × Judges (radixForm (digitByte letter) 16 bits) sgn bits t (outcome.Done x)
+hex-held sgn bits t letter k s N e = let b = known-bits bits k in (k, s, radix-held sgn bits t (b .0) (b .1) (digitByte letter) 16 N refl e)
+
+-- it is the answer to reading it: its letters are those of the code
+pub hex-answer : (sgn : Bool) (bits code : ℕ) (t : List ℕ) (letter : ℕ) {v : ℕ} → 3 ≤ code → code ≤ 4 → (code ≡ 3 → letter ≡ 97) → (code ≡ 4 → letter ≡ 65) → known bits ≡ true → 0 < length t
+    → Judges (radixForm (digitByte letter) 16 bits) sgn bits t (outcome.Done v) → Answers sgn bits code t (outcome.Done v)
+unfolding form
+hex-answer sgn bits code t letter {v} least most small capital n s j = passed sgn bits code t (outcome.Done v) n (omega arith) s (go (decLe code 3))
+  where
+    with-letter : (l : ℕ) → letter ≡ l → Judges (radixForm (digitByte l) 16 bits) sgn bits t (outcome.Done v)
+    with-letter l e = subst (λ (x : ℕ). Judges (radixForm (digitByte x) 16 bits) sgn bits t (outcome.Done v)) e j
+
+    go : Dec (code ≤ 3) → Judges (form sgn bits code) sgn bits t (outcome.Done v)
+    go (yes h) = let e : code ≡ 3 = omega arith in at-code sgn bits t (outcome.Done v) 3 code e (with-letter 97 (small e))
+    go (no h) = let e : code ≡ 4 = omega arith in at-code sgn bits t (outcome.Done v) 4 code e (with-letter 65 (capital e))
 
 -- the value of a decimal text is the answer to reading it
 pub short-answer : (sgn : Bool) (bits : ℕ) (t : List ℕ) {m : Bool} {v x : ℕ} → known bits ≡ true → 0 < length t → IsNumber sgn lower 10 t m v false → outcome.Done x ≡ ofValue sgn bits (whole m v)

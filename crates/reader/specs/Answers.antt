@@ -39,6 +39,6 @@ Answers sgn bits format t outcome.NotCanonical = Passes sgn bits format t outcom
 Answers sgn bits format t outcome.Range = Passes sgn bits format t outcome.Range
 Answers sgn bits format t (outcome.Done v) = Passes sgn bits format t (outcome.Done v)
 
--- Where it is done, the value is the answer to reading t, a decimal text.
-abbrev pub Told : Bool → ℕ → List ℕ → Quick → Type 0
-Told sgn bits t r = r .done ≡ true → Answers sgn bits 0 t (outcome.Done (r .value))
+-- Where it is done, the value is the answer to reading t.
+abbrev pub Told : Bool → ℕ → ℕ → List ℕ → Quick → Type 0
+Told sgn bits format t r = r .done ≡ true → Answers sgn bits format t (outcome.Done (r .value))

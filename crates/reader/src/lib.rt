@@ -4,6 +4,7 @@ ghost use mathlib.Core.Bool.{true};
 ghost use mathlib.Core.Path.{_≡_};
 ghost use Prim.Native.Nat.{_-_, _/_, _^_, _≤_, _<_};
 ghost use lib.ListN.{length};
+ghost use Rattle.kinds.specs.Kinds.{known};
 ghost use Rattle.radix.specs.Radix.{digitByte};
 ghost use Rattle.reading.specs.Formats.{whole, decimalForm, radixForm, exponentForm, form};
 ghost use Rattle.outcomes.specs.Outcomes.{ofValue};
@@ -17,6 +18,7 @@ use outcomes::Outcome;
 use outcomes::of_magnitude;
 use outcomes::of_pattern;
 use whole_texts::Found;
+use whole_texts::find_hex;
 use whole_texts::find_short;
 use whole_texts::find_whole;
 
@@ -145,7 +147,7 @@ fn of_short(signed: bool, bits: u32, minus: bool, n: u64) -> Quick
 
 // A decimal text of up to 20 digits at once. Where that gives no value, `read` says why. The widest types come first, where less is to be tested.
 pub fn read_short(kind: Kind, text: &[u8]) -> Quick
-    ensures { λ r. ⌜ Told (kind .signed) (kind .bits) (now (text .entry)) r ⌝ }
+    ensures { λ r. ⌜ Told (kind .signed) (kind .bits) 0 (now (text .entry)) r ⌝ }
 {
     if text.len() == 0 {
         return Quick {
@@ -172,4 +174,60 @@ pub fn read_short(kind: Kind, text: &[u8]) -> Quick
         done: false,
         value: 0,
     }
+}
+
+// A hex text of up to 16 digits at once.
+fn short_hex(kind: Kind, letter: u8, text: &[u8]) -> Quick
+    requires { ⌜ (57 < letter) × (letter ≤ 97) ⌝ }
+    ensures { λ r. ⌜ (r .done ≡ true → (known (kind .bits) ≡ true) × (0 < length (now (text .entry))) × Judges (radixForm (digitByte letter) 16 (kind .bits)) (kind .signed) (kind .bits) (now (text .entry)) (Done (r .value))) ⌝ }
+{
+    if text.len() == 0 {
+        return Quick {
+            done: false,
+            value: 0,
+        };
+    }
+    let found = find_hex(text, letter);
+    if found.known {
+        let bits = kind.bits;
+        if bits == 64 {
+            return value_only(of_pattern(kind.signed, 64, found.value));
+        }
+        if kinds::is_known(bits) {
+            return value_only(of_pattern(kind.signed, bits, found.value));
+        }
+    }
+    Quick {
+        done: false,
+        value: 0,
+    }
+}
+
+// The first letter by the code of hex: small, capital.
+fn first_letter(format: u32) -> u8
+    ensures { λ r. ⌜ (57 < r) × (r ≤ 97) × ((format ≡ 3 → r ≡ 97)) × ((format ≡ 4 → r ≡ 65)) ⌝ }
+{
+    if format == 3 {
+        return b'a';
+    }
+    b'A'
+}
+
+// A short text in hex at once, as read_short; in the other formats nothing is said.
+pub fn read_short_hex(kind: Kind, format: u32, text: &[u8]) -> Quick
+    ensures { λ r. ⌜ Told (kind .signed) (kind .bits) format (now (text .entry)) r ⌝ }
+{
+    if format < 3 {
+        return Quick {
+            done: false,
+            value: 0,
+        };
+    }
+    if 4 < format {
+        return Quick {
+            done: false,
+            value: 0,
+        };
+    }
+    short_hex(kind, first_letter(format), text)
 }

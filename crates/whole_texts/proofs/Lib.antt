@@ -1,3 +1,3 @@
 -- Laws of texts of digits.
 pub mod Texts
-pub mod Decimals
+pub mod Shorts

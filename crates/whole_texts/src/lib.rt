@@ -7,6 +7,7 @@ ghost use Rattle.radix.specs.Radix.{digitByte, lower};
 ghost use Rattle.whole_texts.specs.Wholes.{IsNumber, FoundOf};
 use digit_runs::front;
 use digit_runs::scan;
+use sixteen_digits::Number;
 use twenty_digits::number_of;
 
 // What a text of digits is found to be: of another shape from a place on, not canonical, or a number behind a minus or none.
@@ -58,4 +59,12 @@ pub fn find_short(text: &[u8], may: bool) -> Magnitude
         minus: 0 < start,
         value: number_of(&text[start..]),
     }
+}
+
+// The number of a hex text of 1 to 16 digits, eight digits at a time.
+pub fn find_hex(text: &[u8], letter: u8) -> Number
+    requires { ⌜ (0 < length (now text)) × (57 < letter) × (letter ≤ 97) ⌝ }
+    ensures { λ r. ⌜ (r .known ≡ true → IsNumber false (digitByte letter) 16 (now (text .entry)) false (r .value) false) ⌝ }
+{
+    sixteen_digits::number_of(text, letter)
 }

@@ -1,9 +1,10 @@
 -- `larguviet::lgv_read` meets its contract. It is the promise of what it calls. Assumes nothing.
-use mathlib.Core.Path.{refl, sym, subst}
+use mathlib.Core.Path.{sym, subst}
 use Prim.Native.Nat.{ℕ}
 use Rattle.outcomes.specs.declared.Outcome.the-variants.{Done}
 use Rattle.reader.specs.Answers.{Answers}
 use Rattle.larguviet.specs.Edge.{set}
+use Rattle.larguviet.proofs.Edge.{at-once}
 use borrow.Author.Needs.{needs}
 use Rattle.larguviet.proofs.lgv_read.Statement.{statement}
 use Rattle.larguviet.proofs.lgv_read.Tie as tie
@@ -14,12 +15,7 @@ read-short-requires c κs = search needs
 returns : tie.Need-returns
 returns c =
     let a = c .before .before .before .before .args in
-    record {
-      outcome = Done (c .before .read-short .result .value);
-      is = subst (λ (f : ℕ). Answers (set (a .is-signed)) (a .bits) f (a .text .now) (Done (c .before .read-short .result .value))) (sym (c .before .before .if1 .taken)) (c .before .read-short .ensures (c .if2 .taken));
-      numbered = refl;
-      returns = refl;
-    }
+    at-once (subst (λ (f : ℕ). Answers (set (a .is-signed)) (a .bits) f (a .text .now) (Done (c .before .read-short .result .value))) (sym (c .before .before .if1 .taken)) (c .before .read-short .ensures (c .if2 .taken)))
 
 read-any-requires : tie.Need-read-any-requires
 read-any-requires c κs = search needs

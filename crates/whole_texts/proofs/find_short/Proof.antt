@@ -1,7 +1,7 @@
 -- `whole_texts::find_short` meets its contract. Assumes nothing.
 use borrow.Author.Tests.{lt-ltb}
 use Rattle.digit_runs.proofs.Runs.{front-inside, front-allowed}
-use Rattle.whole_texts.proofs.Decimals.{short-number}
+use Rattle.whole_texts.proofs.Shorts.{short-decimal}
 use borrow.Author.Needs.{needs}
 use Rattle.whole_texts.proofs.find_short.Statement.{statement}
 use Rattle.whole_texts.proofs.find_short.Tie as tie
@@ -26,7 +26,7 @@ returns c =
     let n = c .before .before in
     let s = n .before .before in (
       front-allowed (n .front .ensures),
-      λ z f. short-number (s .args .text .now) _ _ (front-inside (n .front .ensures) (s .pre)) (c .number-of .ensures z) (s .args .may) (n .front .ensures) (λ h. f (lt-ltb 0 (n .front .result) h)),
+      λ z f. short-decimal (s .args .text .now) _ _ (front-inside (n .front .ensures) (s .pre)) (c .number-of .ensures z) (s .args .may) (n .front .ensures) (λ h. f (lt-ltb 0 (n .front .result) h)),
     )
 
 pub find-short-spec : {M : Type 1} → statement M

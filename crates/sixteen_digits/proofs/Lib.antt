@@ -1,0 +1,3 @@
+-- Laws of texts of hex digits.
+pub mod Eights
+pub mod Splices
