@@ -6,7 +6,9 @@ ghost use mathlib.Core.Option.{none};
 ghost use Prim.Native.Nat.{ℕ, _-_, _<_, _≤_};
 ghost use lib.ListN.{length};
 ghost use Rattle.buffer.specs.AtEnd.{ended};
+ghost use Rattle.digits.specs.Text.{text};
 ghost use Rattle.exponent.specs.Coefficient.{precisionOf, Sized, scaledText};
+ghost use Rattle.radix.specs.Radix.{digitByte};
 ghost use Rattle.scientific.specs.Sci.{sci};
 ghost use Rattle.scientific.specs.Layout.{expText};
 ghost use Rattle.writing.specs.Text.{letterOf, framed, bare, plain};
@@ -51,6 +53,30 @@ fn count_digits(format: u32, n: u64) -> usize
     radix::count(format, n)
 }
 
+// The first letter of a hex form.
+fn hex_letter(format: u32) -> u8
+    requires { ⌜ 2 < format ⌝ }
+    ensures { λ r. ⌜ (57 < r) × (r ≤ 250) × ((n : ℕ) → plain format n ≡ text (digitByte r) 16 n) ⌝ }
+{
+    if format == 3 {
+        return b'a';
+    }
+    b'A'
+}
+
+// Hex digits alone: their length, and in out where they have room. The one place where hex is written, so that the compiler writes it out here.
+pub fn write_hex(format: u32, n: u64, out: &mut [u8]) -> usize
+    requires { ⌜ 2 < format ⌝ }
+    ensures { λ r. ⌜ Places (plain format n) (now (out .entry)) r (now (out .exit)) ⌝ }
+{
+    let letter = hex_letter(format);
+    let len = hex::count(n);
+    if out.len() < len {
+        return len;
+    }
+    hex::write(letter, n, len, out, len)
+}
+
 // The digits just before end.
 fn write_digits(format: u32, n: u64, out: &mut [u8], end: usize) -> usize
     requires { ⌜ (length (plain format n) ≤ end) × (end ≤ length (now out)) ⌝ }
@@ -59,7 +85,15 @@ fn write_digits(format: u32, n: u64, out: &mut [u8], end: usize) -> usize
     if format == 0 {
         return decimal::write_before(n, out, end);
     }
-    radix::write_before(format, n, out, end)
+    if format == 1 {
+        return radix::write_binary(n, out, end);
+    }
+    if format == 2 {
+        return radix::write_octal(n, out, end);
+    }
+    let at = end - count_digits(format, n);
+    write_hex(format, n, &mut out[at..end]);
+    at
 }
 
 // Digits with nothing around them but a minus: their length, and in out where they have room.
@@ -81,23 +115,6 @@ pub fn write_bare(format: u32, n: u64, negative: bool, out: &mut [u8]) -> usize
     }
     write_digits(format, n, out, count);
     count
-}
-
-// Hex digits alone: the same by the shortest way.
-pub fn write_hex(format: u32, n: u64, out: &mut [u8]) -> usize
-    requires { ⌜ 2 < format ⌝ }
-    ensures { λ r. ⌜ Places (plain format n) (now (out .entry)) r (now (out .exit)) ⌝ }
-{
-    let wanted = count_digits(format, n);
-    if out.len() < wanted {
-        return wanted;
-    }
-    if format == 3 {
-        radix::write_lower_hex(n, out, wanted);
-        return wanted;
-    }
-    radix::write_upper_hex(n, out, wanted);
-    wanted
 }
 
 // Digits with what the options put around them: the whole length, and in out where that has room.

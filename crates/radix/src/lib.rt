@@ -9,7 +9,7 @@ ghost use Rattle.buffer.specs.AtEnd.{ended};
 ghost use Rattle.digits.specs.Digits.{digits};
 ghost use Rattle.digits.specs.Tables.{tabulate};
 ghost use Rattle.digits.specs.Text.{text, lastText};
-ghost use Rattle.radix.specs.Radix.{lower, upper, tableByte, radix};
+ghost use Rattle.radix.specs.Radix.{lower, upper, digitByte, tableByte, radix};
 
 // The digits in order.
 const DIGITS: [u8; 16] = *b"0123456789abcdef";
@@ -69,6 +69,14 @@ fn write_digits(shift: u32, n: u64, buf: &mut [u8], end: usize) -> usize
     fmt_inner(&digit_table(), shift, n, buf, end)
 }
 
+// Hex, with letters from `letter` on.
+fn write_hex(letter: u8, n: u64, buf: &mut [u8], end: usize) -> usize
+    requires { ⌜ (57 < letter) × (letter ≤ 250) × (length (text (digitByte letter) 16 n) ≤ end) × (end ≤ length (now buf)) ⌝ }
+    ensures { λ r. ⌜ (r ≡ end - length (text (digitByte letter) 16 n)) × (now (buf .exit) ≡ ended (now (buf .entry)) end (text (digitByte letter) 16 n)) ⌝ }
+{
+    end - hex::write(letter, n, hex::count(n), buf, end)
+}
+
 // The four texts of a pattern, each just before the index end. The answer is where it starts.
 pub fn write_binary(n: u64, buf: &mut [u8], end: usize) -> usize
     requires { ⌜ (length (text lower 2 n) ≤ end) × (end ≤ length (now buf)) ⌝ }
@@ -91,14 +99,14 @@ pub fn write_lower_hex(n: u64, buf: &mut [u8], end: usize) -> usize
     requires { ⌜ (length (text lower 16 n) ≤ end) × (end ≤ length (now buf)) ⌝ }
     ensures { λ r. ⌜ (r ≡ end - length (text lower 16 n)) × (now (buf .exit) ≡ ended (now (buf .entry)) end (text lower 16 n)) ⌝ }
 {
-    hex::write(97, n, buf, end)
+    write_hex(97, n, buf, end)
 }
 
 pub fn write_upper_hex(n: u64, buf: &mut [u8], end: usize) -> usize
     requires { ⌜ (length (text upper 16 n) ≤ end) × (end ≤ length (now buf)) ⌝ }
     ensures { λ r. ⌜ (r ≡ end - length (text upper 16 n)) × (now (buf .exit) ≡ ended (now (buf .entry)) end (text upper 16 n)) ⌝ }
 {
-    hex::write(65, n, buf, end)
+    write_hex(65, n, buf, end)
 }
 
 // The text of n by the format code, just before the index end. The answer is where it starts.
