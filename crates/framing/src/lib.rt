@@ -77,9 +77,9 @@ pub fn write_hex(format: u32, n: u64, out: &mut [u8]) -> usize
     hex::write(letter, n, len, out, len)
 }
 
-// The digits just before end.
-fn write_digits(format: u32, n: u64, out: &mut [u8], end: usize) -> usize
-    requires { ⌜ (length (plain format n) ≤ end) × (end ≤ length (now out)) ⌝ }
+// The digits, so many as were counted, just before end.
+fn write_digits(format: u32, n: u64, count: usize, out: &mut [u8], end: usize) -> usize
+    requires { ⌜ (count ≡ length (plain format n)) × (count ≤ end) × (end ≤ length (now out)) ⌝ }
     ensures { λ r. ⌜ (r ≡ end - length (plain format n)) × (now (out .exit) ≡ ended (now (out .entry)) end (plain format n)) ⌝ }
 {
     if format == 0 {
@@ -91,7 +91,7 @@ fn write_digits(format: u32, n: u64, out: &mut [u8], end: usize) -> usize
     if format == 2 {
         return radix::write_octal(n, out, end);
     }
-    let at = end - count_digits(format, n);
+    let at = end - count;
     write_hex(format, n, &mut out[at..end]);
     at
 }
@@ -107,13 +107,13 @@ pub fn write_bare(format: u32, n: u64, negative: bool, out: &mut [u8]) -> usize
             return need;
         }
         out[0] = b'-';
-        write_digits(format, n, out, need);
+        write_digits(format, n, count, out, need);
         return need;
     }
     if out.len() < count {
         return count;
     }
-    write_digits(format, n, out, count);
+    write_digits(format, n, count, out, count);
     count
 }
 
@@ -123,7 +123,8 @@ pub fn write_framed(format: u32, n: u64, negative: bool, options: Options, out: 
     ensures { λ r. ⌜ Places (framed options negative format (plain format n)) (now (out .entry)) r (now (out .exit)) ⌝ }
 {
     let fill = options.fill as u8;
-    let layout = lay_out(options, negative, format, count_digits(format, n));
+    let count = count_digits(format, n);
+    let layout = lay_out(options, negative, format, count);
     let need = layout.need;
     if out.len() < need {
         return need;
@@ -131,7 +132,7 @@ pub fn write_framed(format: u32, n: u64, negative: bool, options: Options, out: 
     let pad = layout.pad;
     let behind = pad.behind;
     buffer::fill(fill, behind, out, need);
-    let at = write_digits(format, n, out, need - behind);
+    let at = write_digits(format, n, count, out, need - behind);
     padding::put_front(
         pad,
         fill,
@@ -194,11 +195,14 @@ pub fn write_bare_exponent(
 ) -> Written
     ensures { λ r. ⌜ Writes (bare negative (expText (letterOf format) (precisionOf precision) n)) (keptAnswer (precisionOf precision) n (bare negative (expText (letterOf format) (precisionOf precision) n)) (length (now (out .entry)))) (now (out .entry)) r (now (out .exit)) ⌝ }
 {
+    let room = out.len();
+    let Precision::Digits(_) = precision else {
+        return writing::settle(write_bare_in_full(format, n, negative, out), room);
+    };
     let scaled = exponent::scale(n, precision);
     if 99 < scaled.exp {
         return Written::ExponentRefused;
     }
-    let room = out.len();
     writing::settle(write_scaled(format, scaled, negative, out), room)
 }
 

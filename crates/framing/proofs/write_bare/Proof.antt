@@ -49,7 +49,7 @@ slice-write-out c = search needs
 write-digits-requires : tie.Need-write-digits-requires
 write-digits-requires c κs =
     let e = c .before in
-    (omega (arith, e .before .before .count-digits .ensures), simp length-set (e .if2 .left))
+    (e .before .before .count-digits .ensures, omega arith, simp length-set (e .if2 .left))
 
 same-length : tie.Need-same-length
 same-length c =
@@ -68,7 +68,7 @@ returns-2 c =
     let w = c .before .before .write-digits in
     let d = plain (a .format) (a .n) in
     rw (below t)
-    (has-room (45 ∷ d) (a .out .now) (n .result + 1) (omega (arith, n .ensures)) (w .last .1 .1 .0) (e .if2 .left)
+    (has-room (45 ∷ d) (a .out .now) (n .result + 1) (omega (arith, n .ensures)) (w .last .1 .1 .1 .0) (e .if2 .left)
     (w .ensures .1 ∙ behind-front (a .out .now) 0 (n .result + 1) 45 d (omega (arith, n .ensures)) (e .if2 .left)))
 
 returns-3 : tie.Need-returns-3
@@ -91,7 +91,7 @@ returns-4 c =
     let a = t .before .before .before .args in
     let n = t .before .count-digits in
     let w = c .before .before .write-digits2 in
-    rw (from t) (has-room (plain (a .format) (a .n)) (a .out .now) (n .result) (n .ensures) (w .last .1 .1 .0) (e .if3 .left) (w .ensures .1))
+    rw (from t) (has-room (plain (a .format) (a .n)) (a .out .now) (n .result) (n .ensures) (w .last .1 .1 .1 .0) (e .if3 .left) (w .ensures .1))
 
 pub write-bare-spec : {M : Type 1} → statement M
 write-bare-spec =

@@ -32,8 +32,14 @@ part-ended t l p a e n i h P =
     let q : p ≡ t = P .leaves ∙ rw (m, le-leb (length t) (length t) (le-refl (length t))) (fills t (take (e - a) (drop a l)) m) in
     rw (q, b, d)
 
+-- digits that are known by another name have the room that was asked for
+room : (s : tie.Start) {t : List ℕ} → plain (s .args .format) (s .args .n) ≡ t → (length t ≤ s .args .end) × (s .args .end ≤ length (s .args .out .now))
+room s {t} e =
+    let j : length (plain (s .args .format) (s .args .n)) ≡ length t = ap length e in
+    (omega (arith, s .pre .0, s .pre .1), s .pre .2)
+
 write-before-requires : tie.Need-write-before-requires
-write-before-requires c κs = let s = c .before .before .before in rw (plain-decimal (s .args .format) (s .args .n) (c .before .if1 .taken)) at (s .pre)
+write-before-requires c κs = let s = c .before .before .before in room s (plain-decimal (s .args .format) (s .args .n) (c .before .if1 .taken))
 
 same-length : tie.Need-same-length
 same-length c = search needs
@@ -42,7 +48,7 @@ returns : tie.Need-returns
 returns c = let s = c .before .before .before .before .before .before in rw (plain-decimal (s .args .format) (s .args .n) (c .before .before .before .before .if1 .taken)) (c .before .before .write-before .ensures)
 
 write-binary-requires : tie.Need-write-binary-requires
-write-binary-requires c κs = rw (c .before .if2 .taken) at (c .before .before .before .before .pre)
+write-binary-requires c κs = let s = c .before .before .before .before in room s (ap (λ (f : ℕ). plain f (s .args .n)) (c .before .if2 .taken))
 
 same-length-2 : tie.Need-same-length-2
 same-length-2 c = search needs
@@ -51,7 +57,7 @@ returns-2 : tie.Need-returns-2
 returns-2 c = rw (c .before .before .before .before .if2 .taken) (c .before .before .write-binary .ensures)
 
 write-octal-requires : tie.Need-write-octal-requires
-write-octal-requires c κs = rw (c .before .if3 .taken) at (c .before .before .before .before .before .pre)
+write-octal-requires c κs = let s = c .before .before .before .before .before in room s (ap (λ (f : ℕ). plain f (s .args .n)) (c .before .if3 .taken))
 
 same-length-3 : tie.Need-same-length-3
 same-length-3 c = search needs
@@ -59,11 +65,8 @@ same-length-3 c = search needs
 returns-3 : tie.Need-returns-3
 returns-3 c = rw (c .before .before .before .before .if3 .taken) (c .before .before .write-octal .ensures)
 
-count-digits-requires : tie.Need-count-digits-requires
-count-digits-requires c κs = search needs
-
 sub-at : tie.Need-sub-at
-sub-at c = omega (arith, c .count-digits .ensures, c .before .before .before .before .before .pre .0)
+sub-at c = c .before .before .before .before .pre .1
 
 sub-write-hex : tie.Need-sub-write-hex
 sub-write-hex c = search needs
@@ -75,19 +78,17 @@ part-write-hex-end : tie.Need-part-write-hex-end
 part-write-hex-end c = search needs
 
 write-hex-requires : tie.Need-write-hex-requires
-write-hex-requires c κs = let e = c .before .before in omega (arith, e .if3 .left, e .before .if2 .left, e .before .before .if1 .left)
+write-hex-requires c κs = let e = c .before in omega (arith, e .if3 .left, e .before .if2 .left, e .before .before .if1 .left)
 
 same-length-4 : tie.Need-same-length-4
 same-length-4 c = search needs
 
 returns-4 : tie.Need-returns-4
 returns-4 c =
-    let k = c .before .before .before .before in
-    let s = k .before .before .before .before .before in
+    let s = c .before .before .before .before .before .before .before .before in
     let a = s .args in
-    let e = k .count-digits .ensures in
     let w = c .before .before .write-hex in
-    (ap (λ (i : ℕ). a .end - i) e, part-ended (plain (a .format) (a .n)) (a .out .now) (w .last .1 .1 .0) (a .end - k .count-digits .result) (a .end) (w .result) (omega (arith, e, s .pre .0)) (s .pre .1) (w .ensures))
+    (ap (λ (i : ℕ). a .end - i) (s .pre .0), part-ended (plain (a .format) (a .n)) (a .out .now) (w .last .1 .1 .0) (a .end - a .count) (a .end) (w .result) (omega (arith, s .pre .0, s .pre .1)) (s .pre .2) (w .ensures))
 
 pub write-digits-spec : {M : Type 1} → statement M
 write-digits-spec =
@@ -102,7 +103,6 @@ write-digits-spec =
     write-octal-requires
     same-length-3
     returns-3
-    count-digits-requires
     sub-at
     sub-write-hex
     part-write-hex-start

@@ -49,7 +49,8 @@ sub-write-digits c = omega (arith, pieces (c .before .before .before .before .be
 write-digits-requires : tie.Need-write-digits-requires
 write-digits-requires c κs =
     let e = c .before .before .before .before .before .before in
-    (omega (arith, pieces (e .before)), omega (arith, e .if1 .left))
+    let n = e .before .before .count-digits .ensures in
+    (n, omega (arith, pieces (e .before), n), omega (arith, e .if1 .left))
 
 put-front-requires : tie.Need-put-front-requires
 put-front-requires c κs =
@@ -68,7 +69,7 @@ returns-2 c =
     let f = c .before .before .before .before .before .before .before .before .before .before .fill in
     let w = c .before .before .before .before .before .before .write-digits in
     let p = c .before .before .put-front in
-    in-room (a .options) (a .negative) (a .format) (plain (a .format) (a .n)) (l .lay-out .result .pad) (l .lay-out .result .need) (laid l) (a .out .now) (f .last .1 .1 .0) (w .last .1 .1 .0) (p .last .1 .1 .1 .1 .1 .1 .0) (w .result) (e .if1 .left) (f .ensures) (w .ensures .1) (w .ensures .0) (p .ensures)
+    in-room (a .options) (a .negative) (a .format) (plain (a .format) (a .n)) (l .lay-out .result .pad) (l .lay-out .result .need) (laid l) (a .out .now) (f .last .1 .1 .0) (w .last .1 .1 .1 .0) (p .last .1 .1 .1 .1 .1 .1 .0) (w .result) (e .if1 .left) (f .ensures) (w .ensures .1) (w .ensures .0) (p .ensures)
 
 pub write-framed-spec : {M : Type 1} → statement M
 write-framed-spec =
