@@ -1,4 +1,4 @@
--- `decimal::put4` meets its contract: four digits are two pairs. Assumes nothing.
+-- `pairs::put4` meets its contract: four digits are two pairs. Assumes nothing.
 use mathlib.Core.Path.{_≡_, ap, _∙_}
 use mathlib.Core.List.{_++_}
 use Prim.Native.Nat.{ℕ, _+_, _/_, _%_}
@@ -8,8 +8,8 @@ use Rattle.digits.specs.Text.{ascii, lastText}
 use Rattle.digits.proofs.Text.{length-lastText, lastText-split, lastText-mod}
 use Rattle.words.proofs.Stores.{sets-append}
 use borrow.Author.Needs.{needs}
-use Rattle.decimal.proofs.put4.Statement.{statement}
-use Rattle.decimal.proofs.put4.Tie as tie
+use Rattle.pairs.proofs.put4.Statement.{statement}
+use Rattle.pairs.proofs.put4.Tie as tie
 
 put2-requires : tie.Need-put2-requires
 put2-requires c κs = search needs

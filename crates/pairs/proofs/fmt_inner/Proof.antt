@@ -1,4 +1,4 @@
--- `decimal::fmt_inner` meets its contract. The invariant: what is left of the text, written so that it ends at the offset, completes the buffer (`Left`).
+-- `pairs::fmt_inner` meets its contract. The invariant: what is left of the text, written so that it ends at the offset, completes the buffer (`Left`).
 -- The measure is the number that is left. Assumes nothing.
 use mathlib.Core.Path.{_≡_}
 use mathlib.Core.List.{List, [], _∷_}
@@ -11,9 +11,9 @@ use lib.ListN.{length-set, getD}
 use Rattle.buffer.proofs.Left.{left-start, left-room, left-last}
 use Rattle.digits.specs.Text.{decimal}
 use Rattle.digits.proofs.Tables.{table-units}
-use Rattle.decimal.proofs.Pending.{Rest, rest-room, rest-store, pending, pending-all, pending-one, pending-none}
-use Rattle.decimal.proofs.fmt_inner.Statement.{statement}
-use Rattle.decimal.proofs.fmt_inner.Tie as tie
+use Rattle.pairs.proofs.Pending.{Rest, rest-room, rest-store, pending, pending-all, pending-one, pending-none}
+use Rattle.pairs.proofs.fmt_inner.Statement.{statement}
+use Rattle.pairs.proofs.fmt_inner.Tie as tie
 
 abbrev Inv-loop : tie.InvT-loop
 Inv-loop pairs n buf₀ end offset₀ remain₀ buf offset remain = Rest n end buf₀ remain offset buf

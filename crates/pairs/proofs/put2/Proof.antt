@@ -1,11 +1,11 @@
--- `decimal::put2` meets its contract: the two bytes of a pair are the text of the last two digits. Assumes nothing.
+-- `pairs::put2` meets its contract: the two bytes of a pair are the text of the last two digits. Assumes nothing.
 use native.Mathlib.Numerals.{add-one}
 use native.Mathlib.Omega.{arith}
 use lib.ListN.{length-set}
 use Rattle.digits.proofs.Tables.{pair-text}
 use borrow.Author.Needs.{needs}
-use Rattle.decimal.proofs.put2.Statement.{statement}
-use Rattle.decimal.proofs.put2.Tie as tie
+use Rattle.pairs.proofs.put2.Statement.{statement}
+use Rattle.pairs.proofs.put2.Tie as tie
 
 mul-buf : tie.Need-mul-buf
 mul-buf c = search needs
