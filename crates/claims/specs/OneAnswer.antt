@@ -8,7 +8,7 @@ use lib.ListN.{length}
 use Rattle.decimal.specs.Ends.{EndPromise}
 use Rattle.digits.specs.Text.{decimal, signed}
 use Rattle.kinds.specs.Kinds.{meaning}
-use Rattle.larguviet.specs.Edge as edge
+use Rattle.edge.specs.Edge as edge
 use Rattle.outcomes.specs.declared.Outcome.{Outcome}
 use Rattle.parts.specs.Answers as parting
 use Rattle.parts.specs.declared.Part.{Part}

@@ -10,7 +10,7 @@ use Rattle.reader.specs.Answers as answers
 use Rattle.reader.proofs.Outcomes as Outcomes
 use Rattle.writing.specs.Promise.{number, value, Writes}
 use Rattle.writing.specs.declared.Written.{Written}
-use Rattle.larguviet.specs.Edge.{Answers, Reads}
+use Rattle.edge.specs.Edge.{Answers, Reads}
 
 pub edged : {t : List ℕ} {a : Written} {l : List ℕ} {r : Written} {l′ : List ℕ} {n v : ℕ} → Writes t a l r l′ → n ≡ number r → v ≡ value r → Answers t a l n v l′
 edged W e f = record { numbered = e ∙ ap number (W .answers); returns = f ∙ ap value (W .answers); leaves = W .leaves }

@@ -1,7 +1,7 @@
--- `larguviet::precision_from` meets its contract. Assumes nothing.
+-- `edge::precision_from` meets its contract. Assumes nothing.
 use borrow.Author.Tests.{eq-eqb, ne-eqb}
-use Rattle.larguviet.proofs.precision_from.Statement.{statement}
-use Rattle.larguviet.proofs.precision_from.Tie as tie
+use Rattle.edge.proofs.precision_from.Statement.{statement}
+use Rattle.edge.proofs.precision_from.Tie as tie
 
 returns : tie.Need-returns
 returns c = simp (ne-eqb (c .before .args .given) 0 (c .if1 .taken))

@@ -1,8 +1,8 @@
--- `larguviet::read_any` meets its contract. It is the promise of what it calls. Assumes nothing.
-use Rattle.larguviet.proofs.Edge.{at-once}
+-- `edge::read_any` meets its contract. It is the promise of what it calls. Assumes nothing.
+use Rattle.edge.proofs.Edge.{at-once}
 use borrow.Author.Needs.{needs}
-use Rattle.larguviet.proofs.read_any.Statement.{statement}
-use Rattle.larguviet.proofs.read_any.Tie as tie
+use Rattle.edge.proofs.read_any.Statement.{statement}
+use Rattle.edge.proofs.read_any.Tie as tie
 
 read-short-hex-requires : tie.Need-read-short-hex-requires
 read-short-hex-requires c κs = search needs
