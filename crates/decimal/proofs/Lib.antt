@@ -1,4 +1,3 @@
 -- Laws that belong to no one function.
-pub mod Pending
 pub mod Ends
 pub mod Signed

@@ -1,33 +1,14 @@
 // The C edge: what the firmware in C calls, and the Rust oracle. A slice is a pointer and a length; an answer is two words.
-ghost use mathlib.Core.Path.{_≡_};
 ghost use lib.ListN.{length};
 ghost use Rattle.digits.specs.Text.{decimal, signed};
 ghost use Rattle.decimal.specs.Ends.{EndPromise};
 ghost use Rattle.kinds.specs.Kinds.{meaning};
 ghost use Rattle.writing.specs.Text.{textOf};
 ghost use Rattle.writing.specs.Promise.{answer, house};
-ghost use Rattle.larguviet.specs.Edge.{set, precisionFrom, optionsFrom, Answers, Reads};
-use exponent::Precision;
+ghost use Rattle.edge.specs.Edge.{set, optionsFrom, Answers, Reads};
+use edge::Answer;
 use kinds::Kind;
 use writing::Options;
-use writing::Written;
-
-// Document 01's number of the answer, and what it returns.
-#[repr(C)]
-pub struct Answer {
-    pub number: u64,
-    pub value: u64,
-}
-
-// The precision, where one is given.
-fn precision_from(given: u32, digits: u16) -> Precision
-    ensures { λ r. ⌜ r ≡ precisionFrom given digits ⌝ }
-{
-    if given != 0 {
-        return Precision::Digits(digits);
-    }
-    Precision::None
-}
 
 // The text of a value by type, format and options, at the start of out.
 #[no_mangle]
@@ -52,7 +33,7 @@ pub extern "C" fn lgv_write(
         bits,
         signed: is_signed != 0,
     };
-    let digits = precision_from(has_precision, precision);
+    let digits = edge::precision_from(has_precision, precision);
     let options = Options {
         plus: plus != 0,
         alternate: alternate != 0,
@@ -91,24 +72,6 @@ pub extern "C" fn lgv_write_short(
     }
 }
 
-// Any text back to its value, or why it has none. A short one in hex is read at once.
-fn read_any(kind: Kind, format: u32, text: &[u8]) -> Answer
-    ensures { λ r. ⌜ Reads (kind .signed) (kind .bits) format (now (text .entry)) (r .number) (r .value) ⌝ }
-{
-    let short = reader::read_short_hex(kind, format, text);
-    if short.done {
-        return Answer {
-            number: 0,
-            value: short.value,
-        };
-    }
-    let found = reader::read(kind, format, text);
-    Answer {
-        number: found.number() as u64,
-        value: found.value(),
-    }
-}
-
 // A plain text back to its value. What most calls hand over, a short decimal text, is read at once; its answer stays in registers,
 // since those of read_any are copied out of memory only where it is called.
 #[no_mangle]
@@ -127,13 +90,13 @@ pub extern "C" fn lgv_read(bits: u32, is_signed: u32, format: u32, text: &[u8]) 
                 value: found.value,
             };
         }
-        let any = read_any(kind, format, text);
+        let any = edge::read_any(kind, format, text);
         return Answer {
             number: any.number,
             value: any.value,
         };
     }
-    let any = read_any(kind, format, text);
+    let any = edge::read_any(kind, format, text);
     Answer {
         number: any.number,
         value: any.value,

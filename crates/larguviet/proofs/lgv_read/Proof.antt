@@ -3,8 +3,8 @@ use mathlib.Core.Path.{sym, subst}
 use Prim.Native.Nat.{ℕ}
 use Rattle.outcomes.specs.declared.Outcome.the-variants.{Done}
 use Rattle.reader.specs.Answers.{Answers}
-use Rattle.larguviet.specs.Edge.{set}
-use Rattle.larguviet.proofs.Edge.{at-once}
+use Rattle.edge.specs.Edge.{set}
+use Rattle.edge.proofs.Edge.{at-once}
 use borrow.Author.Needs.{needs}
 use Rattle.larguviet.proofs.lgv_read.Statement.{statement}
 use Rattle.larguviet.proofs.lgv_read.Tie as tie

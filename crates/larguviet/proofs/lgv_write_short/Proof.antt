@@ -1,5 +1,5 @@
 -- `larguviet::lgv_write_short` meets its contract. It is the promise of what it calls. Assumes nothing.
-use Rattle.larguviet.proofs.Edge.{edged}
+use Rattle.edge.proofs.Edge.{edged}
 use borrow.Author.Needs.{needs}
 use Rattle.larguviet.proofs.lgv_write_short.Statement.{statement}
 use Rattle.larguviet.proofs.lgv_write_short.Tie as tie
