@@ -1,30 +1,41 @@
 // A value of a type that has been judged, to text: format and options, with every refusal before the first byte.
 // Carries over the impls of Display, Binary, Octal, LowerHex, UpperHex, LowerExp and UpperExp, over the bits of a type.
-ghost use mathlib.Core.Bool.{true};
+ghost use mathlib.Core.Bool.{true, false};
 ghost use mathlib.Core.Path.{_≡_};
 ghost use Prim.Native.Nat.{ℕ, _<_, _≤_};
 ghost use lib.ListN.{length};
 ghost use Rattle.kinds.specs.Kinds.{known, inType, meaning};
-ghost use Rattle.writing.specs.Text.{textOf};
+ghost use Rattle.writing.specs.Text.{framed, plain, textOf};
 ghost use Rattle.writing.specs.Promise.{Unframed, optionsKnown, answerOf, Writes, Places};
 use exponent::Precision;
+use kinds::Split;
 use writing::Options;
 use writing::Written;
+
+// The number whose digits a form other than the exponent form shows, and whether behind a minus: the magnitude in decimal, else the pattern at the type's own bits.
+fn shown(signed: bool, bits: u32, value: u64, format: u32) -> Split
+    requires { ⌜ (known bits ≡ true) × (inType signed bits (meaning 64 signed value) ≡ true) × (format ≤ 4) ⌝ }
+    ensures { λ r. ⌜ ((o : Options) → textOf bits (meaning 64 signed value) format o ≡ framed o (r .negative) format (plain format (r .magnitude))) × ((format ≡ 0 → ⊥) → r .negative ≡ false) ⌝ }
+{
+    if format == 0 {
+        return kinds::split_pattern(signed, value);
+    }
+    Split {
+        negative: false,
+        magnitude: kinds::own_pattern(signed, bits, value),
+    }
+}
 
 // Decimal and radix with nothing around the digits but a minus: the way of most calls. The length, and in out where it has room.
 pub fn write_plainly(signed: bool, bits: u32, value: u64, format: u32, out: &mut [u8]) -> usize
     requires { ⌜ (known bits ≡ true) × (inType signed bits (meaning 64 signed value) ≡ true) × (format ≤ 4) ⌝ }
     ensures { λ r. ⌜ ((o : Options) (p : Precision) → Unframed o p → Places (textOf bits (meaning 64 signed value) format o) (now (out .entry)) r (now (out .exit))) ⌝ }
 {
-    if format == 0 {
-        let split = kinds::split_pattern(signed, value);
-        return framing::write_bare(format, split.magnitude, split.negative, out);
+    let number = shown(signed, bits, value, format);
+    if format <= 2 {
+        return framing::write_bare(format, number.magnitude, number.negative, out);
     }
-    let pattern = kinds::own_pattern(signed, bits, value);
-    if 2 < format {
-        return framing::write_hex(format, pattern, out);
-    }
-    framing::write_bare(format, pattern, false, out)
+    framing::write_hex(format, number.magnitude, out)
 }
 
 // The exponent form with nothing around it but a minus.
@@ -54,15 +65,10 @@ fn write_framed(
     requires { ⌜ (known bits ≡ true) × (inType signed bits (meaning 64 signed value) ≡ true) × (optionsKnown format options ≡ true) ⌝ }
     ensures { λ r. ⌜ Writes (textOf bits (meaning 64 signed value) format options) (answerOf bits (meaning 64 signed value) format options (length (now (out .entry)))) (now (out .entry)) r (now (out .exit)) ⌝ }
 {
-    let room = out.len();
-    if format == 0 {
-        let split = kinds::split_pattern(signed, value);
-        let need = framing::write_framed(format, split.magnitude, split.negative, options, out);
-        return writing::settle(need, room);
-    }
     if format <= 4 {
-        let own = kinds::own_pattern(signed, bits, value);
-        let need = framing::write_framed(format, own, false, options, out);
+        let number = shown(signed, bits, value, format);
+        let room = out.len();
+        let need = framing::write_framed(format, number.magnitude, number.negative, options, out);
         return writing::settle(need, room);
     }
     let split = kinds::split_pattern(signed, value);

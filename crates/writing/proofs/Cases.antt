@@ -104,16 +104,16 @@ module _ (bits : ℕ) (z : ℤ) (format : ℕ) (o : Options) (room : ℕ) where
     size : s .magnitude ≡ natAbs z
     size = ap (λ (x : Split). x .magnitude) e
 
-    pub decimal-places : (l : List ℕ) (n : ℕ) (l′ : List ℕ) → format ≡ 0 → Places (framed o (s .negative) format (plain format (s .magnitude))) l n l′ → Places (textOf bits z format o) l n l′
-    decimal-places l n l′ f P = rw (decimal-text f, ← sign, ← size) P
+    pub decimal-shown : format ≡ 0 → textOf bits z format o ≡ framed o (s .negative) format (plain format (s .magnitude))
+    decimal-shown f = rw (sign, size) (decimal-text f)
 
     pub exponent-writes : optionsKnown format o ≡ true → (l : List ℕ) (r : Written) (l′ : List ℕ) → length l ≡ room → 4 < format
         → Writes (framed o (s .negative) format (expText (letterOf format) (precisionOf (o .precision)) (s .magnitude))) (exponentAnswer o (s .negative) format (s .magnitude) (length l)) l r l′
         → Writes (textOf bits z format o) (answerOf bits z format o room) l r l′
     exponent-writes k l r l′ i f W = rw (exponent-answer k f, exponent-text f, ← i, ← sign, ← size) W
 
-  pub radix-places : (m : ℕ) → m ≡ pattern bits z → (l : List ℕ) (n : ℕ) (l′ : List ℕ) → (format ≡ 0 → ⊥) → format ≤ 4 → Places (framed o false format (plain format m)) l n l′ → Places (textOf bits z format o) l n l′
-  radix-places m e l n l′ f h P = rw (radix-text f h, ← e) P
+  pub radix-shown : (m : ℕ) → m ≡ pattern bits z → (format ≡ 0 → ⊥) → format ≤ 4 → textOf bits z format o ≡ framed o false format (plain format m)
+  radix-shown m e f h = rw e (radix-text f h)
 
 -- the fill is one byte
 pub fill-known : (format : ℕ) (o : Options) → optionsKnown format o ≡ true → o .fill ≤ 126
