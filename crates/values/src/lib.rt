@@ -32,10 +32,14 @@ pub fn write_plainly(signed: bool, bits: u32, value: u64, format: u32, out: &mut
     ensures { λ r. ⌜ ((o : Options) (p : Precision) → Unframed o p → Places (textOf bits (meaning 64 signed value) format o) (now (out .entry)) r (now (out .exit))) ⌝ }
 {
     let number = shown(signed, bits, value, format);
-    if format <= 2 {
+    if 2 < format {
+        return framing::write_hex(format, number.magnitude, out);
+    }
+    // Decimal apart, so that the compiler knows the format there.
+    if format == 0 {
         return framing::write_bare(format, number.magnitude, number.negative, out);
     }
-    framing::write_hex(format, number.magnitude, out)
+    framing::write_bare(format, number.magnitude, number.negative, out)
 }
 
 // The exponent form with nothing around it but a minus.
