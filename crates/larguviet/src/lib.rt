@@ -7,8 +7,8 @@ ghost use Rattle.kinds.specs.Kinds.{meaning};
 ghost use Rattle.writing.specs.Text.{textOf};
 ghost use Rattle.writing.specs.Promise.{answer, house};
 ghost use Rattle.larguviet.specs.Edge.{set, precisionFrom, optionsFrom, Answers, Reads};
-use exponent::Precision;
 use kinds::Kind;
+use scaling::Precision;
 use writing::Options;
 use writing::Written;
 

@@ -8,8 +8,8 @@ ghost use lib.ListN.{length};
 ghost use Rattle.kinds.specs.Kinds.{known, inType, meaning};
 ghost use Rattle.writing.specs.Text.{textOf};
 ghost use Rattle.writing.specs.Promise.{house, Unframed, optionsKnown, answerOf, answer, Writes, Places};
-use exponent::Precision;
 use kinds::Kind;
+use scaling::Precision;
 use writing::Options;
 use writing::Written;
 

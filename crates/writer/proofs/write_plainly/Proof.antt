@@ -3,8 +3,8 @@ use mathlib.Core.Bool.{false}
 use mathlib.Core.List.{List}
 use Prim.Native.Nat.{ℕ}
 use lib.ListN.{length}
-use Rattle.exponent.specs.declared.Precision.{Precision}
 use Rattle.kinds.specs.Kinds.{meaning}
+use Rattle.scaling.specs.declared.Precision.{Precision}
 use Rattle.writing.specs.declared.Options.{Options}
 use Rattle.writing.specs.Promise.{Unframed, Places}
 use Rattle.writing.specs.Text.{plain, textOf}

@@ -1,9 +1,9 @@
--- `exponent::scale` meets its contract. Assumes nothing.
+-- `scaling::scale` meets its contract. Assumes nothing.
 use native.Mathlib.Omega.{arith}
 use borrow.Author.Needs.{needs}
 use Rattle.scientific.proofs.Tens as T
-use Rattle.exponent.proofs.scale.Statement.{statement}
-use Rattle.exponent.proofs.scale.Tie as tie
+use Rattle.scaling.proofs.scale.Statement.{statement}
+use Rattle.scaling.proofs.scale.Tie as tie
 
 enum-told : tie.Need-enum-told
 enum-told c = search needs

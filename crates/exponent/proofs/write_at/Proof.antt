@@ -1,4 +1,4 @@
--- `exponent::Scaled::write_at` meets its contract: from the end on, the exponent, the zeros and the coefficient. Assumes nothing.
+-- `exponent::write_at` meets its contract: from the end on, the exponent, the zeros and the coefficient. Assumes nothing.
 use mathlib.Core.List.{_∷_}
 use mathlib.Core.Path.{_≡_}
 use Prim.Native.Nat.{_+_}
@@ -8,8 +8,8 @@ use borrow.Author.Needs.{needs}
 use Rattle.digits.specs.Text.{decimal}
 use Rattle.exponent.specs.Coefficient.{scaledText}
 use Rattle.exponent.proofs.Joined.{coef-least, exp-least, scaled-length, written}
-use Rattle.exponent.proofs.Scaled.write_at.Statement.{statement}
-use Rattle.exponent.proofs.Scaled.write_at.Tie as tie
+use Rattle.exponent.proofs.write_at.Statement.{statement}
+use Rattle.exponent.proofs.write_at.Tie as tie
 
 coef-length-requires : tie.Need-coef-length-requires
 coef-length-requires c κs = (c .before .pre .0 .few, c .before .pre .0 .zeros)
@@ -17,10 +17,10 @@ coef-length-requires c κs = (c .before .pre .0 .few, c .before .pre .0 .zeros)
 -- the whole length, by the pieces that the code has
 pieces : (c : tie.After-coef-length) →
     let a = c .before .before .args in
-    length (scaledText (a .letter) (a .self)) ≡ c .coef-length .result + (a .self .«more_prec» + length (a .letter ∷ decimal (a .self .exp)))
+    length (scaledText (a .letter) (a .scaled)) ≡ c .coef-length .result + (a .scaled .«more_prec» + length (a .letter ∷ decimal (a .scaled .exp)))
 pieces c =
     let a = c .before .before .args in
-    omega (arith, scaled-length (a .letter) (a .self), c .coef-length .ensures .1 (a .self .coef))
+    omega (arith, scaled-length (a .letter) (a .scaled), c .coef-length .ensures .1 (a .scaled .coef))
 
 add-behind : tie.Need-add-behind
 add-behind c = omega (arith, c .before .before .pre .1, pieces c)
@@ -42,7 +42,7 @@ encode-coef-requires : tie.Need-encode-coef-requires
 encode-coef-requires c κs =
     let p = c .before .before .before .before .before .before .before .before .before .before in
     let s = p .before .before in
-    let t = s .args .self in
+    let t = s .args .scaled in
     (s .pre .0 .lead, s .pre .0 .zeros, omega (arith, s .pre .1, pieces p, p .coef-length .ensures .1 (t .coef), coef-least (t .coef) (t .«coef_prec») (t .«more_prec»), exp-least (s .args .letter) (t .exp)))
 
 same-length : tie.Need-same-length
@@ -56,8 +56,8 @@ returns c =
     let x = c .before .before .before .before .before .before .before .before .before .before .encode-exp in
     let f = c .before .before .before .before .before .before .fill in
     let w = c .before .before .encode-coef in
-    written (a .letter) (a .self) (a .buf .now) (x .last .1 .1 .0) (f .last .1 .1 .0) (w .last .1 .1 .1 .0) (a .at) (a .at + p .coef-length .result + a .self .«more_prec») (x .result) (w .result) (x .ensures .0) (w .ensures .0)
-    (omega (arith, w .ensures .0, p .coef-length .ensures .1 (a .self .coef))) (s .pre .1) (x .ensures .1) (f .ensures) (w .ensures .1)
+    written (a .letter) (a .scaled) (a .buf .now) (x .last .1 .1 .0) (f .last .1 .1 .0) (w .last .1 .1 .1 .0) (a .at) (a .at + p .coef-length .result + a .scaled .«more_prec») (x .result) (w .result) (x .ensures .0) (w .ensures .0)
+    (omega (arith, w .ensures .0, p .coef-length .ensures .1 (a .scaled .coef))) (s .pre .1) (x .ensures .1) (f .ensures) (w .ensures .1)
 
 pub write-at-spec : {M : Type 1} → statement M
 write-at-spec =

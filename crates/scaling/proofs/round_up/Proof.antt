@@ -1,9 +1,9 @@
--- `exponent::round_up` meets its contract: a law for each return. Assumes nothing.
+-- `scaling::round_up` meets its contract: a law for each return. Assumes nothing.
 use mathlib.Core.Path.{sym}
 use native.Mathlib.Omega.{arith}
 use Rattle.scientific.proofs.Round.{up-above, up-tie, up-under}
-use Rattle.exponent.proofs.round_up.Statement.{statement}
-use Rattle.exponent.proofs.round_up.Tie as tie
+use Rattle.scaling.proofs.round_up.Statement.{statement}
+use Rattle.scaling.proofs.round_up.Tie as tie
 
 returns : tie.Need-returns
 returns c = (sym (up-under _ _ _ (c .if1 .taken)), omega arith)

@@ -1,12 +1,12 @@
--- `exponent::short` meets its contract. The invariant: so many zeros were dropped from n, and more than nothing is left, which is the measure.
+-- `scaling::short` meets its contract. The invariant: so many zeros were dropped from n, and more than nothing is left, which is the measure.
 -- Assumes nothing.
 use mathlib.Core.Path.{_≡_}
 use mathlib.Core.Logic.{⊎-elim}
 use Prim.Native.Nat.{ℕ, _%_}
 use native.Mathlib.Omega.{arith}
-use Rattle.exponent.proofs.Scaling.{scales-one, Drops, drops-none, drops-more, drops-done}
-use Rattle.exponent.proofs.short.Statement.{statement}
-use Rattle.exponent.proofs.short.Tie as tie
+use Rattle.scaling.proofs.Scaling.{scales-one, Drops, drops-none, drops-more, drops-done}
+use Rattle.scaling.proofs.short.Statement.{statement}
+use Rattle.scaling.proofs.short.Tie as tie
 
 abbrev Inv-loop : tie.InvT-loop
 Inv-loop n exp coef₀ coef-prec₀ coef coef-prec = Drops n exp coef coef-prec

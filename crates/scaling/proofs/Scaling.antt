@@ -12,7 +12,7 @@ use Rattle.scientific.specs.Sci.{Sci, exponentOf, rounded, fixed, short, sci}
 use Rattle.scientific.proofs.Fixed.{fixed-long, fixed-carry, fixed-stay, q-low, q-high}
 use Rattle.scientific.proofs.Short.{short-is, zeros-most, shown}
 use Rattle.scientific.proofs.Tens as T
-use Rattle.exponent.specs.Coefficient.{Scales}
+use Rattle.scaling.specs.Coefficient.{Scales}
 
 -- a quotient by 2 or more is at most the half
 pub halved : (n u : ℕ) → 2 ≤ u → n / u * 2 ≤ n

@@ -1,12 +1,12 @@
--- `exponent::scale_down` meets its contract. Assumes nothing.
+-- `scaling::scale_down` meets its contract. Assumes nothing.
 use mathlib.Core.Path.{ap}
 use Prim.Native.Nat.{ℕ, _+_, _/_}
 use native.Mathlib.Omega.{arith}
 use borrow.Author.Needs.{needs}
 use Rattle.scientific.specs.Sci.{rounded}
-use Rattle.exponent.proofs.Scaling.{halved}
-use Rattle.exponent.proofs.scale_down.Statement.{statement}
-use Rattle.exponent.proofs.scale_down.Tie as tie
+use Rattle.scaling.proofs.Scaling.{halved}
+use Rattle.scaling.proofs.scale_down.Statement.{statement}
+use Rattle.scaling.proofs.scale_down.Tie as tie
 
 div-floor : tie.Need-div-floor
 div-floor c = search needs

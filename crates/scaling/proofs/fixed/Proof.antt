@@ -1,11 +1,11 @@
--- `exponent::fixed` meets its contract: one law for each return. Assumes nothing.
+-- `scaling::fixed` meets its contract: one law for each return. Assumes nothing.
 use mathlib.Core.Path.{sym, _∙_}
 use native.Mathlib.Omega.{arith}
 use borrow.Author.Needs.{needs}
 use Rattle.scientific.proofs.Tens as T
-use Rattle.exponent.proofs.Scaling.{two, scales-long, scales-carry, scales-stay}
-use Rattle.exponent.proofs.fixed.Statement.{statement}
-use Rattle.exponent.proofs.fixed.Tie as tie
+use Rattle.scaling.proofs.Scaling.{two, scales-long, scales-carry, scales-stay}
+use Rattle.scaling.proofs.fixed.Statement.{statement}
+use Rattle.scaling.proofs.fixed.Tie as tie
 
 returns : tie.Need-returns
 returns c = scales-long _ _ _ (c .before .pre .0) (omega (arith, c .before .fits .n .fits)) (c .if1 .taken) (c .before .pre .1)

@@ -1,10 +1,10 @@
--- `exponent::in_full` meets its contract. Assumes nothing.
+-- `scaling::in_full` meets its contract. Assumes nothing.
 use native.Mathlib.Omega.{arith}
 use borrow.Author.Needs.{needs}
 use Rattle.scientific.proofs.Tens as T
-use Rattle.exponent.proofs.Scaling.{drops-none, drops-done}
-use Rattle.exponent.proofs.in_full.Statement.{statement}
-use Rattle.exponent.proofs.in_full.Tie as tie
+use Rattle.scaling.proofs.Scaling.{drops-none, drops-done}
+use Rattle.scaling.proofs.in_full.Statement.{statement}
+use Rattle.scaling.proofs.in_full.Tie as tie
 
 digit-count-requires : tie.Need-digit-count-requires
 digit-count-requires c κs = search needs

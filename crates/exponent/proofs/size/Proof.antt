@@ -1,8 +1,8 @@
--- `exponent::Scaled::size` meets its contract. Assumes nothing.
+-- `exponent::size` meets its contract. Assumes nothing.
 use native.Mathlib.Omega.{arith}
 use Rattle.exponent.proofs.Joined.{scaled-length}
-use Rattle.exponent.proofs.Scaled.size.Statement.{statement}
-use Rattle.exponent.proofs.Scaled.size.Tie as tie
+use Rattle.exponent.proofs.size.Statement.{statement}
+use Rattle.exponent.proofs.size.Tie as tie
 
 coef-length-requires : tie.Need-coef-length-requires
 coef-length-requires c κs = (c .pre .few, c .pre .zeros)
@@ -21,7 +21,7 @@ returns c =
     let s = c .before .before .before in
     let x = c .before .exp-length .ensures in
     let f = c .before .before .coef-length .ensures in
-    (omega (arith, s .pre .zeros, x .0, f .0), λ letter. omega (arith, scaled-length letter (s .args .self), f .1 (s .args .self .coef), x .1 letter))
+    (omega (arith, s .pre .zeros, x .0, f .0), λ letter. omega (arith, scaled-length letter (s .args .scaled), f .1 (s .args .scaled .coef), x .1 letter))
 
 pub size-spec : {M : Type 1} → statement M
 size-spec =
