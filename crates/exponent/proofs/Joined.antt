@@ -13,8 +13,9 @@ use Rattle.buffer.specs.AtEnd.{ended, begun}
 use Rattle.buffer.proofs.AtEnd.{begun-behind, ended-whole, ended-on}
 use Rattle.digits.specs.Text.{ascii, lastText, decimal}
 use Rattle.digits.proofs.Text.{length-lastText, text-most, text-some}
-use Rattle.parts.specs.Parts.{signText, partText, partsText, textOf, leavesSource, Inside, partLength, partsLength, trueLength, partsOf, zeroPart, copyPart}
-use Rattle.parts.specs.declared.Formatted.{Formatted}
+use Rattle.formatted.specs.Three.{partsOf}
+use Rattle.formatted.specs.declared.Formatted.{Formatted}
+use Rattle.parts.specs.Parts.{signText, partText, partsText, textOf, leavesSource, Inside, partLength, partsLength, trueLength, zeroPart, copyPart}
 use Rattle.parts.proofs.Text.{length-text}
 use Rattle.scaling.specs.Coefficient.{Scales}
 use Rattle.scaling.specs.declared.Scaled.{Scaled}

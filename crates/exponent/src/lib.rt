@@ -10,7 +10,7 @@ ghost use Rattle.scientific.specs.Sci.{exponentOf};
 ghost use Rattle.scaling.specs.Coefficient.{precisionOf};
 ghost use Rattle.exponent.specs.Coefficient.{Sized, coefText, scaledText};
 ghost use Rattle.exponent.specs.Form.{Answers};
-use parts::Formatted;
+use formatted::Formatted;
 use parts::Part;
 use scaling::Precision;
 use scaling::Scaled;

@@ -6,12 +6,12 @@ use Prim.Native.Nat.{ℕ, suc}
 use lib.Dec.{leb}
 use lib.ListN.{length}
 use Rattle.buffer.specs.AtEnd.{begun}
 use Rattle.parts.specs.Parts.{known, allKnown, leavesSource, trueLength, held, textOf}
 use Rattle.parts.specs.declared.Part.{Part}
-use Rattle.parts.specs.declared.Measured.{Measured}
-use Rattle.parts.specs.declared.Measured.the-variants as measure
-use Rattle.parts.specs.declared.Wrote.{Wrote}
-use Rattle.parts.specs.declared.Wrote.the-variants as write
+use Rattle.part_answers.specs.declared.Measured.{Measured}
+use Rattle.part_answers.specs.declared.Measured.the-variants as measure
+use Rattle.part_answers.specs.declared.Wrote.{Wrote}
+use Rattle.part_answers.specs.declared.Wrote.the-variants as write
 
 -- Of the first part that leaves a source of n bytes `out` at its index, counted from i on; `fine` where none does.
 unfoldable pub firstOut : {A : Type 0} → (ℕ → A) → A → ℕ → ℕ → List Part → A

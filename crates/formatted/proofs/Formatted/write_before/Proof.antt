@@ -1,12 +1,13 @@
--- `parts::Formatted::write_before` meets its contract: behind each call the parts that are left complete the buffer. Assumes nothing.
+-- `formatted::Formatted::write_before` meets its contract: behind each call the parts that are left complete the buffer. Assumes nothing.
 use mathlib.Core.List.{List, [], _∷_}
 use Prim.Native.Nat.{ℕ}
 use borrow.Author.Needs.{needs}
-use Rattle.parts.specs.Parts.{Inside, partsOf}
+use Rattle.parts.specs.Parts.{Inside}
 use Rattle.parts.specs.declared.Part.{Part}
 use Rattle.parts.proofs.Writing.{Rest, rest-start, rest-room, rest-step, rest-sign-room, rest-sign}
-use Rattle.parts.proofs.Formatted.write_before.Statement.{statement}
-use Rattle.parts.proofs.Formatted.write_before.Tie as tie
+use Rattle.formatted.specs.Three.{partsOf}
+use Rattle.formatted.proofs.Formatted.write_before.Statement.{statement}
+use Rattle.formatted.proofs.Formatted.write_before.Tie as tie
 
 -- the parts ps are left, and are to end at the index at of out
 abbrev Left : tie.Start → List Part → ℕ → List ℕ → Type 0

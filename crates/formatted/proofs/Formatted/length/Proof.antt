@@ -1,9 +1,9 @@
--- `parts::Formatted::length` meets its contract: three steps from no part on. Assumes nothing.
+-- `formatted::Formatted::length` meets its contract: three steps from no part on. Assumes nothing.
 use mathlib.Core.Path.{refl}
 use mathlib.Core.List.{[], _∷_}
 use borrow.Author.Needs.{needs}
-use Rattle.parts.proofs.Formatted.length.Statement.{statement}
-use Rattle.parts.proofs.Formatted.length.Tie as tie
+use Rattle.formatted.proofs.Formatted.length.Statement.{statement}
+use Rattle.formatted.proofs.Formatted.length.Tie as tie
 
 scan-start-requires : tie.Need-scan-start-requires
 scan-start-requires c κs = search needs

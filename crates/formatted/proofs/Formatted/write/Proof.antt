@@ -1,28 +1,23 @@
--- `parts::Formatted::write` meets its contract: after a refusal nothing has been written, and after DONE the text alone.
+-- `formatted::Formatted::write` meets its contract: after a refusal nothing has been written, and after DONE the text alone.
 -- Assumes nothing.
-use mathlib.Core.Path.{_≡_, refl, sym, _∙_}
-use mathlib.Core.List.{List, [], _∷_}
-use Prim.Native.Nat.{ℕ}
+use mathlib.Core.Path.{_≡_, refl, sym, subst, _∙_}
+use mathlib.Core.List.{[], _∷_}
 use native.Mathlib.Omega.{arith}
 use borrow.Author.Needs.{needs}
 use denote.Enum.Declared.{tagOf}
 use types.Run.{OneOf, miss}
 use lib.ListN.{length}
-use Rattle.parts.specs.Parts.{partsOf}
-use Rattle.parts.specs.Answers.{wrote, after}
-use Rattle.parts.specs.declared.Wrote.{Wrote}
-use Rattle.parts.specs.declared.Wrote.the-variants as write
-use Rattle.parts.proofs.Answers.{wrote-done, writes-done}
-use Rattle.parts.proofs.Wrote as W
-use Rattle.parts.proofs.Formatted.write.Statement.{statement}
-use Rattle.parts.proofs.Formatted.write.Tie as tie
+use Rattle.part_answers.specs.Answers.{wrote, wroteNumber}
+use Rattle.part_answers.specs.declared.Wrote.{Wrote}
+use Rattle.part_answers.proofs.Answers.{wrote-done, is-done, left-alone, writes-done}
+use Rattle.part_answers.proofs.Wrote as W
+use Rattle.formatted.specs.Three.{partsOf}
+use Rattle.formatted.proofs.Formatted.write.Statement.{statement}
+use Rattle.formatted.proofs.Formatted.write.Tie as tie
 
--- an answer that is not the first, DONE, leaves the buffer as it was
-refused : (r : Wrote) (t out : List ℕ) → OneOf (1 ∷ 2 ∷ 3 ∷ []) (tagOf W.the-type r) → out ≡ after r t out
-refused (write.Done n) t out h = absurd (miss (1 ∷ 2 ∷ 3 ∷ []) 0 tt h)
-refused write.OptionsRefused t out h = refl
-refused (write.PartRefused i) t out h = refl
-refused (write.NoRoom n) t out h = refl
+-- an answer that is not the first is not DONE
+refused : (r : Wrote) → OneOf (1 ∷ 2 ∷ 3 ∷ []) (tagOf W.the-type r) → wroteNumber r ≡ 0 → ⊥
+refused r h z = miss (1 ∷ 2 ∷ 3 ∷ []) 0 tt (subst (λ (w : Wrote). OneOf (1 ∷ 2 ∷ 3 ∷ []) (tagOf W.the-type w)) (is-done r z) h)
 
 -- the answer of `judge` is that of writing
 answer : (c : tie.After-judge) → let s = c .before .before .before .before .args in c .judge .result ≡ wrote (length (s .src .now)) (length (s .out .now)) (s .self .sign) (partsOf (s .self))
@@ -38,7 +33,7 @@ enum-known-answer : tie.Need-enum-known-answer
 enum-known-answer c = search needs
 
 returns : tie.Need-returns
-returns c = record { answers = answer (c .before); leaves = refused (c .before .judge .result) _ _ (c .match .keys2) }
+returns c = left-alone _ _ _ _ (answer (c .before)) (refused (c .before .judge .result) (c .match .keys2))
 
 write-before-requires : tie.Need-write-before-requires
 write-before-requires c κs =

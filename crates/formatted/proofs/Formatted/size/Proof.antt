@@ -1,9 +1,9 @@
--- `parts::Formatted::size` meets its contract. Assumes nothing.
+-- `formatted::Formatted::size` meets its contract. Assumes nothing.
 use native.Mathlib.Omega.{arith}
 use borrow.Author.Needs.{needs}
 use Rattle.parts.specs.Parts.{trueLength, partsLength}
-use Rattle.parts.proofs.Formatted.size.Statement.{statement}
-use Rattle.parts.proofs.Formatted.size.Tie as tie
+use Rattle.formatted.proofs.Formatted.size.Statement.{statement}
+use Rattle.formatted.proofs.Formatted.size.Tie as tie
 
 length-requires : tie.Need-length-requires
 length-requires c κs = search needs
@@ -11,16 +11,16 @@ length-requires c κs = search needs
 length-requires-2 : tie.Need-length-requires-2
 length-requires-2 c κs = search needs
 
-add-parts : tie.Need-add-parts
+add-three : tie.Need-add-three
 unfolding trueLength partsLength
-add-parts c = omega arith
+add-three c = omega arith
 
 length-requires-3 : tie.Need-length-requires-3
 length-requires-3 c κs = search needs
 
-add-parts-2 : tie.Need-add-parts-2
+add-three-2 : tie.Need-add-three-2
 unfolding trueLength partsLength
-add-parts-2 c = omega arith
+add-three-2 c = omega arith
 
 sign-length-requires : tie.Need-sign-length-requires
 sign-length-requires c κs = search needs
@@ -39,9 +39,9 @@ size-spec =
     (tie.spec
     length-requires
     length-requires-2
-    add-parts
+    add-three
     length-requires-3
-    add-parts-2
+    add-three-2
     sign-length-requires
     add-result
     returns)

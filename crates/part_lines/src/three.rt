@@ -6,7 +6,7 @@ use fields::field;
 use fields::narrow;
 use fields::narrow::word;
 use fields::output;
-use parts::Formatted;
+use formatted::Formatted;
 
 fn formatted(fields: &[u64; 40]) -> Formatted {
     Formatted {

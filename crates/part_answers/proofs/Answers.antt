@@ -1,4 +1,4 @@
--- Laws of the answers: that of writing from that of the length, that of one part more, what DONE says, and that each promise has one answer.
+-- Laws of the answers: that of writing from that of the length, that of one part more, what DONE says, how a promise is kept, and that each has one answer.
 -- Assumes nothing.
 use mathlib.Core.Path.{_≡_, refl, sym, ap, _∙_}
 use mathlib.Core.Bool.{Bool, true, false, cond, true≢false, _&&_, and-assoc, and-true, and-false}
@@ -11,14 +11,14 @@ use lib.Dec.{leb}
 use lib.ListN.{length}
 use Rattle.buffer.specs.AtEnd.{ended}
 use Rattle.buffer.proofs.AtEnd.{ended-whole}
 use Rattle.parts.specs.Parts.{known, allKnown, leavesSource, Inside, partLength, partsLength, trueLength, signText, held, textOf}
-use Rattle.parts.specs.Answers.{firstOut, checked, measured, wrote, after, Writes}
 use Rattle.parts.proofs.Text.{sign-short, length-text}
 use Rattle.parts.specs.declared.Part.{Part}
-use Rattle.parts.specs.declared.Measured.{Measured}
-use Rattle.parts.specs.declared.Measured.the-variants as measure
-use Rattle.parts.specs.declared.Wrote.{Wrote}
-use Rattle.parts.specs.declared.Wrote.the-variants as write
+use Rattle.part_answers.specs.Answers.{firstOut, checked, measured, wrote, after, Writes, wroteNumber, wroteValue}
+use Rattle.part_answers.specs.declared.Measured.{Measured}
+use Rattle.part_answers.specs.declared.Measured.the-variants as measure
+use Rattle.part_answers.specs.declared.Wrote.{Wrote}
+use Rattle.part_answers.specs.declared.Wrote.the-variants as write
 
 -- ---- the checks, whatever is answered to them
 
@@ -204,6 +204,22 @@ module _ (n room sign : ℕ) (ps : List Part) where
       go (measure.PartRefused i) q h = absurd (let z : _≡_ {A = ℕ} 0 1 = cc in omega arith)
 
 -- ---- the promise
+
+pub is-done : (w : Wrote) → wroteNumber w ≡ 0 → w ≡ write.Done (wroteValue w)
+is-done (write.Done n) e = refl
+is-done write.OptionsRefused e = absurd (omega arith)
+is-done (write.PartRefused i) e = absurd (omega arith)
+is-done (write.NoRoom n) e = absurd (omega arith)
+
+is-left : (w : Wrote) (t b : List ℕ) → (wroteNumber w ≡ 0 → ⊥) → after w t b ≡ b
+is-left (write.Done n) t b h = absurd (h refl)
+is-left write.OptionsRefused t b h = refl
+is-left (write.PartRefused i) t b h = refl
+is-left (write.NoRoom n) t b h = refl
+
+-- after every answer but DONE it is kept by leaving the buffer alone
+pub left-alone : (sign : ℕ) (ps : List Part) (src out : List ℕ) {w : Wrote} → w ≡ wrote (length src) (length out) sign ps → (wroteNumber w ≡ 0 → ⊥) → Writes sign ps src out w out
+left-alone sign ps src out {w} a h = record { answers = a; leaves = sym (is-left w (textOf sign src ps) out h) }
 
 -- where every check has passed and the text has been written before its own length, the promise is kept
 pub writes-done : (sign k : ℕ) (ps : List Part) (src out : List ℕ) {r : Wrote} {out′ : List ℕ} → r ≡ wrote (length src) (length out) sign ps → r ≡ write.Done k → out′ ≡ ended out k (textOf sign src ps) → Writes sign ps src out r out′
