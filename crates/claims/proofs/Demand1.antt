@@ -11,13 +11,13 @@ use lib.IntN.{ℤ}
 use lib.ListN.{length}
 use Rattle.buffer.specs.AtEnd.{begun}
 use Rattle.kinds.specs.Kinds.{known, inType, meaning}
-use Rattle.parts.specs.Answers as parting
-use Rattle.parts.specs.Answers.{firstOut, checked, wrote, wroteNumber, wroteValue}
+use Rattle.part_answers.specs.Answers as parting
+use Rattle.part_answers.specs.Answers.{firstOut, checked, wrote, wroteNumber, wroteValue}
+use Rattle.part_answers.specs.declared.Wrote.{Wrote}
+use Rattle.part_answers.specs.declared.Wrote.the-variants as write
 use Rattle.parts.specs.Parts as parts
 use Rattle.parts.specs.Parts.{allKnown, leavesSource, Inside, trueLength, held}
 use Rattle.parts.specs.declared.Part.{Part}
-use Rattle.parts.specs.declared.Wrote.{Wrote}
-use Rattle.parts.specs.declared.Wrote.the-variants as write
 use Rattle.parts.proofs.Text.{length-text}
 use Rattle.writing.specs.Text.{textOf}
 use Rattle.writing.specs.Promise.{optionsKnown, exponentKept, fitted, number, value, after, answerOf, answer, Writes}

@@ -10,7 +10,6 @@ use lib.ListN.{length}
 use Rattle.digits.specs.Digits.{upTo, bare, digits}
 use Rattle.digits.specs.Text.{text, decimal, signed}
 use Rattle.digits.proofs.Digits.{canonical, unique}
-use Rattle.exponent.specs.Coefficient.{precisionOf}
 use Rattle.kinds.specs.Kinds.{known, inType, pattern, negative}
 use Rattle.kinds.proofs.Sizes.{greatest-unsigned, greatest-signed}
 use Rattle.padding.specs.Padding.{signOf, prefixOf, beforeOf, zerosOf, behindOf}
@@ -23,6 +22,7 @@ use Rattle.radix.proofs.Lengths.{radix-length}
 use Rattle.reader.specs.Answers.{Answers}
 use Rattle.reader.proofs.Outcomes.{read-plain, read-back, read-only, read-refused}
 use Rattle.reading.specs.Formats.{plain}
+use Rattle.scaling.specs.Coefficient.{precisionOf}
 use Rattle.writing.specs.Text.{minus, body, textOf}
 use Rattle.writing.specs.Promise.{house}
 use Rattle.writing.proofs.Cases.{framed-bare, house-unframed}

@@ -1,7 +1,7 @@
 -- One answer to each promise, from the laws of the layers. Assumes nothing.
 use Rattle.decimal.proofs.Ends as ends
 use Rattle.edge.proofs.Edge as edge
-use Rattle.parts.proofs.Answers as parting
+use Rattle.part_answers.proofs.Answers as parting
 use Rattle.reader.proofs.Outcomes as reading
 use Rattle.writing.proofs.Cases as writing
 use Rattle.claims.specs.OneAnswer.{OneAnswer}

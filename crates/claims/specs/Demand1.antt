@@ -8,12 +8,12 @@ use lib.ListN.{length}
 use Rattle.buffer.specs.AtEnd.{ended, begun}
 use Rattle.decimal.specs.Ends.{EndPromise}
 use Rattle.kinds.specs.Kinds.{known, inType, meaning}
-use Rattle.parts.specs.Answers as parting
-use Rattle.parts.specs.Answers.{wroteNumber, wroteValue}
+use Rattle.part_answers.specs.Answers as parting
+use Rattle.part_answers.specs.Answers.{wroteNumber, wroteValue}
+use Rattle.part_answers.specs.declared.Wrote.{Wrote}
 use Rattle.parts.specs.Parts as parts
 use Rattle.parts.specs.Parts.{allKnown, Inside, held}
 use Rattle.parts.specs.declared.Part.{Part}
-use Rattle.parts.specs.declared.Wrote.{Wrote}
 use Rattle.writing.specs.Text.{textOf}
 use Rattle.writing.specs.Promise.{optionsKnown, exponentKept, number, value, answerOf, answer, Writes}
 use Rattle.writing.specs.declared.Options.{Options}

@@ -7,7 +7,6 @@ use lib.IntN.{ℤ, pos, negsuc}
 use lib.ListN.{length}
 use Rattle.digits.specs.Digits.{Canonical, digits}
 use Rattle.digits.specs.Text.{decimal}
-use Rattle.exponent.specs.Coefficient.{precisionOf}
 use Rattle.kinds.specs.Kinds.{known, inType, pattern, Greatest}
 use Rattle.outcomes.specs.Outcomes.{numberOf}
 use Rattle.outcomes.specs.declared.Outcome.{Outcome}
@@ -16,6 +15,7 @@ use Rattle.padding.specs.Padding.{signOf, prefixOf}
 use Rattle.radix.specs.Radix.{radix, digitBits, roundedUp}
 use Rattle.reader.specs.Answers.{Answers}
 use Rattle.reading.specs.Formats.{exponentText}
+use Rattle.scaling.specs.Coefficient.{precisionOf}
 use Rattle.writing.specs.Text.{minus, body, textOf}
 use Rattle.writing.specs.Promise.{house}
 use Rattle.writing.specs.declared.Options.{Options}

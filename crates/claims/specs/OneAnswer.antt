@@ -10,9 +10,9 @@ use Rattle.digits.specs.Text.{decimal, signed}
 use Rattle.kinds.specs.Kinds.{meaning}
 use Rattle.edge.specs.Edge as edge
 use Rattle.outcomes.specs.declared.Outcome.{Outcome}
-use Rattle.parts.specs.Answers as parting
+use Rattle.part_answers.specs.Answers as parting
+use Rattle.part_answers.specs.declared.Wrote.{Wrote}
 use Rattle.parts.specs.declared.Part.{Part}
-use Rattle.parts.specs.declared.Wrote.{Wrote}
 use Rattle.reader.specs.Answers.{Answers}
 use Rattle.writing.specs.Text.{textOf}
 use Rattle.writing.specs.Promise.{answerOf, answer, house, Writes}

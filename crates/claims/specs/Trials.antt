@@ -5,9 +5,9 @@ use mathlib.Core.Path.{_≡_}
 use Prim.Native.Nat.{ℕ, _-_, _^_}
 use lib.IntN.{pos, negsuc}
 use lib.ListN.{length}
-use Rattle.exponent.specs.declared.Precision.the-variants.{None, Digits}
 use Rattle.outcomes.specs.declared.Outcome.the-variants as outcome
 use Rattle.reader.specs.Answers.{Answers}
+use Rattle.scaling.specs.declared.Precision.the-variants.{None, Digits}
 use Rattle.writing.specs.Text.{textOf}
 use Rattle.writing.specs.Promise.{house}
 use Rattle.writing.specs.declared.Options.{Options}

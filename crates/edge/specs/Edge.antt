@@ -4,11 +4,11 @@ use mathlib.Core.List.{List}
 use mathlib.Core.Path.{_≡_}
 use Prim.Native.Nat.{ℕ}
 use lib.Dec.{eqb}
-use Rattle.exponent.specs.declared.Precision.{Precision}
-use Rattle.exponent.specs.declared.Precision.the-variants.{None, Digits}
 use Rattle.reader.specs.Answers as reader
 use Rattle.outcomes.specs.Outcomes.{numberOf, valueOf}
 use Rattle.outcomes.specs.declared.Outcome.{Outcome}
+use Rattle.scaling.specs.declared.Precision.{Precision}
+use Rattle.scaling.specs.declared.Precision.the-variants.{None, Digits}
 use Rattle.writing.specs.Promise.{number, value, after}
 use Rattle.writing.specs.declared.Options.{Options}
 use Rattle.writing.specs.declared.Written.{Written}

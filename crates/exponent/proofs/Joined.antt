@@ -13,16 +13,18 @@ use Rattle.buffer.specs.AtEnd.{ended, begun}
 use Rattle.buffer.proofs.AtEnd.{begun-behind, ended-whole, ended-on}
 use Rattle.digits.specs.Text.{ascii, lastText, decimal}
 use Rattle.digits.proofs.Text.{length-lastText, text-most, text-some}
-use Rattle.parts.specs.Parts.{signText, partText, partsText, textOf, leavesSource, Inside, partLength, partsLength, trueLength, partsOf, zeroPart, copyPart}
-use Rattle.parts.specs.declared.Formatted.{Formatted}
+use Rattle.formatted.specs.Three.{partsOf}
+use Rattle.formatted.specs.declared.Formatted.{Formatted}
+use Rattle.parts.specs.Parts.{signText, partText, partsText, textOf, leavesSource, Inside, partLength, partsLength, trueLength, zeroPart, copyPart}
 use Rattle.parts.proofs.Text.{length-text}
+use Rattle.scaling.specs.Coefficient.{Scales}
+use Rattle.scaling.specs.declared.Scaled.{Scaled}
 use Rattle.scientific.specs.Sci.{Sci, sci}
 use Rattle.scientific.specs.Layout.{point, layout, expText}
 use Rattle.scientific.proofs.Steps.{layout-zeros}
 use Rattle.scientific.proofs.Tens as T
-use Rattle.exponent.specs.Coefficient.{Scales, Sized, coefText, scaledText}
+use Rattle.exponent.specs.Coefficient.{Sized, coefText, scaledText}
 use Rattle.exponent.specs.Form.{Texts}
-use Rattle.exponent.specs.declared.Scaled.{Scaled}
 
 -- the lead, a point and the fraction
 pub coef-length : (m f z : ℕ) → length (coefText m f z) ≤ f + 2

@@ -4,8 +4,9 @@ use mathlib.Core.Option.{Option}
 use mathlib.Core.Path.{_≡_}
 use Prim.Native.Nat.{ℕ, _^_, _≤_, _<_}
 use lib.ListN.{length}
-use Rattle.parts.specs.Parts.{textOf, Inside, trueLength, partsOf}
-use Rattle.parts.specs.declared.Formatted.{Formatted}
+use Rattle.formatted.specs.Three.{partsOf}
+use Rattle.formatted.specs.declared.Formatted.{Formatted}
+use Rattle.parts.specs.Parts.{textOf, Inside, trueLength}
 use Rattle.scientific.specs.Sci.{sci}
 use Rattle.scientific.specs.Layout.{expText}
 use Rattle.exponent.specs.declared.Shown.{Shown}

@@ -1,3 +1,3 @@
--- What the exponent form's code computes, step by step, and what it promises of the text.
+-- The text of the exponent form by its pieces, and what the code promises of it.
 pub mod Coefficient
 pub mod Form

@@ -1,152 +1,24 @@
-// The exponent form: the coefficient, rounded or without its last zeros, and the exponent; then its text as three parts.
-// Carries over impl_Exp! of fmt/num.rs. checked_ilog10 becomes the count of digits, checked_pow the table of powers.
-ghost use mathlib.Core.Option.{none, some};
+// The exponent form: the text of a coefficient and an exponent, written where it has room, or as three parts.
+// Carries over the second half of impl_Exp! of fmt/num.rs; `scaling` has the first.
 ghost use mathlib.Core.Path.{_≡_};
 ghost use mathlib.Core.List.{_∷_};
 ghost use Prim.Native.Nat.{ℕ, _+_, _<_, _≤_};
 ghost use lib.ListN.{length};
 ghost use Rattle.buffer.specs.AtEnd.{ended};
 ghost use Rattle.digits.specs.Text.{decimal};
-ghost use Rattle.scientific.specs.Sci.{exponentOf, up, rounded};
-ghost use Rattle.exponent.specs.Coefficient.{precisionOf, Scales, Sized, coefText, scaledText};
+ghost use Rattle.scientific.specs.Sci.{exponentOf};
+ghost use Rattle.scaling.specs.Coefficient.{precisionOf};
+ghost use Rattle.exponent.specs.Coefficient.{Sized, coefText, scaledText};
 ghost use Rattle.exponent.specs.Form.{Answers};
-use parts::Formatted;
+use formatted::Formatted;
 use parts::Part;
-
-// How many digits stand behind the point: as many as are needed, or so many.
-pub enum Precision {
-    None,
-    Digits(u16),
-}
+use scaling::Precision;
+use scaling::Scaled;
 
 // The text as parts of the scratch bytes, or that its exponent has more than two digits, which no 64-bit number's has.
 pub enum Shown {
     Parts(Formatted),
     ExponentRefused,
-}
-
-// The digits of coef, coef_prec of them behind the point, and more_prec zeros behind those; the exponent.
-pub struct Scaled {
-    pub coef: u64,
-    pub coef_prec: usize,
-    pub more_prec: usize,
-    pub exp: usize,
-}
-
-// What is added to the quotient floor, for the rest over and half of the scale: half rounds to even.
-fn round_up(floor: u64, over: u64, half: u64) -> u64
-    ensures { λ r. ⌜ (r ≡ up half over floor) × (r ≤ 1) ⌝ }
-{
-    if over < half {
-        return 0;
-    }
-    if half < over {
-        return 1;
-    }
-    floor % 2
-}
-
-// The quotient of coef by scale, rounded: one division, for however many digits are dropped.
-fn scale_down(coef: u64, scale: u64) -> u64
-    requires { ⌜ 2 ≤ scale ⌝ }
-    ensures { λ r. ⌜ r ≡ rounded scale coef ⌝ }
-{
-    let floor = coef / scale;
-    let over = coef % scale;
-    let half = scale / 2;
-    floor + round_up(floor, over, half)
-}
-
-// With a precision: zeros behind the digits of n, or digits dropped. A quotient that is rounded up to the next power of ten loses its last zero.
-fn fixed(n: u64, exp: usize, fmt_prec: usize) -> Scaled
-    requires { ⌜ (exp ≡ exponentOf n) × («fmt_prec» ≤ 65535) ⌝ }
-    ensures { λ r. ⌜ Scales (some «fmt_prec») n r ⌝ }
-{
-    if exp <= fmt_prec {
-        return Scaled {
-            coef: n,
-            coef_prec: exp,
-            more_prec: fmt_prec - exp,
-            exp,
-        };
-    }
-    let less_prec = exp - fmt_prec;
-    let coef = scale_down(n, digits::power(less_prec));
-    if coef == digits::power(fmt_prec + 1) {
-        return Scaled {
-            coef: coef / 10,
-            coef_prec: fmt_prec,
-            more_prec: 0,
-            exp: exp + 1,
-        };
-    }
-    Scaled {
-        coef,
-        coef_prec: fmt_prec,
-        more_prec: 0,
-        exp,
-    }
-}
-
-// Without precision: any and all trailing zeros are dropped, four at a time, then two, then one.
-fn short(n: u64, exp: usize) -> Scaled
-    requires { ⌜ exp ≡ exponentOf n ⌝ }
-    ensures { λ r. ⌜ Scales none n r ⌝ }
-{
-    if n < 10 {
-        return Scaled {
-            coef: n,
-            coef_prec: exp,
-            more_prec: 0,
-            exp,
-        };
-    }
-    let mut coef = n;
-    let mut coef_prec = exp;
-    while coef % 10000 == 0 {
-        coef = coef / 10000;
-        coef_prec -= 4;
-    }
-    if coef % 100 == 0 {
-        coef = coef / 100;
-        coef_prec -= 2;
-    }
-    if coef % 10 == 0 {
-        coef = coef / 10;
-        coef_prec -= 1;
-    }
-    Scaled {
-        coef,
-        coef_prec,
-        more_prec: 0,
-        exp,
-    }
-}
-
-// The coefficient and the exponent of n without precision. Most numbers have no trailing zero: they are told first.
-pub fn in_full(n: u64) -> Scaled
-    ensures { λ r. ⌜ Scales none n r ⌝ }
-{
-    let exp = digits::digit_count(n) - 1;
-    if n % 10 != 0 {
-        return Scaled {
-            coef: n,
-            coef_prec: exp,
-            more_prec: 0,
-            exp,
-        };
-    }
-    short(n, exp)
-}
-
-// The coefficient and the exponent of n.
-pub fn scale(n: u64, precision: Precision) -> Scaled
-    ensures { λ r. ⌜ Scales (precisionOf precision) n r ⌝ }
-{
-    match precision {
-        Precision::None => in_full(n),
-        Precision::Digits(fmt_prec) => { fixed(n, digits::digit_count(n) - 1, fmt_prec as usize) }
-    }
 }
 
 // How long the lead digit, the point and the fraction are, without the zeros that are to follow.
@@ -201,27 +73,25 @@ fn encode_exp(letter: u8, exp: usize, buf: &mut [u8], at: usize) -> usize
     len
 }
 
-impl Scaled {
-    // How long the text is.
-    pub fn size(self) -> usize
-        requires { ⌜ Sized self ⌝ }
-        ensures { λ r. ⌜ (r < 131072) × ((letter : ℕ) → r ≡ length (scaledText letter self)) ⌝ }
-    {
-        let coef_len = coef_length(self.coef_prec, self.more_prec);
-        coef_len + (self.more_prec + exp_length(self.exp))
-    }
+// How long the text is.
+pub fn size(scaled: Scaled) -> usize
+    requires { ⌜ Sized scaled ⌝ }
+    ensures { λ r. ⌜ (r < 131072) × ((letter : ℕ) → r ≡ length (scaledText letter scaled)) ⌝ }
+{
+    let coef_len = coef_length(scaled.coef_prec, scaled.more_prec);
+    coef_len + (scaled.more_prec + exp_length(scaled.exp))
+}
 
-    // The text from the index at on, with no scratch and no copy: for a caller who has found that it has room.
-    pub fn write_at(self, letter: u8, buf: &mut [u8], at: usize)
-        requires { ⌜ Sized self × (at + length (scaledText letter self) ≤ length (now buf)) ⌝ }
-        ensures { λ _. ⌜ now (buf .exit) ≡ ended (now (buf .entry)) (at + length (scaledText letter self)) (scaledText letter self) ⌝ }
-    {
-        let coef_len = coef_length(self.coef_prec, self.more_prec);
-        let behind = at + coef_len + self.more_prec;
-        encode_exp(letter, self.exp, buf, behind);
-        buffer::fill(b'0', self.more_prec, buf, behind);
-        encode_coef(self.coef, self.coef_prec, self.more_prec, buf, at);
-    }
+// The text from the index at on, with no scratch and no copy: for a caller who has found that it has room.
+pub fn write_at(scaled: Scaled, letter: u8, buf: &mut [u8], at: usize)
+    requires { ⌜ Sized scaled × (at + length (scaledText letter scaled) ≤ length (now buf)) ⌝ }
+    ensures { λ _. ⌜ now (buf .exit) ≡ ended (now (buf .entry)) (at + length (scaledText letter scaled)) (scaledText letter scaled) ⌝ }
+{
+    let coef_len = coef_length(scaled.coef_prec, scaled.more_prec);
+    let behind = at + coef_len + scaled.more_prec;
+    encode_exp(letter, scaled.exp, buf, behind);
+    buffer::fill(b'0', scaled.more_prec, buf, behind);
+    encode_coef(scaled.coef, scaled.coef_prec, scaled.more_prec, buf, at);
 }
 
 // The exponent form of the magnitude n: in scratch the coefficient, and right behind it the letter and the exponent; as parts, with zeros between the two.
@@ -229,7 +99,7 @@ impl Scaled {
 pub fn formatted(n: u64, letter: u8, precision: Precision, scratch: &mut [u8; 24]) -> Shown
     ensures { λ r. ⌜ Answers letter (precisionOf precision) n (now (scratch .exit)) r ⌝ }
 {
-    let scaled = scale(n, precision);
+    let scaled = scaling::scale(n, precision);
     if 99 < scaled.exp {
         return Shown::ExponentRefused;
     }

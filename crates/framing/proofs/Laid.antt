@@ -17,9 +17,10 @@ use Rattle.digits.proofs.Text.{text-most}
 use Rattle.exponent.specs.Form.{Texts, Answers}
 use Rattle.exponent.specs.declared.Shown.{Shown}
 use Rattle.exponent.specs.declared.Shown.the-variants as shown
+use Rattle.formatted.specs.Three.{partsOf}
+use Rattle.formatted.specs.declared.Formatted.{Formatted}
 use Rattle.parts.specs.Parts as Parts
-use Rattle.parts.specs.Parts.{Inside, trueLength, partsOf}
-use Rattle.parts.specs.declared.Formatted.{Formatted}
+use Rattle.parts.specs.Parts.{Inside, trueLength}
 use Rattle.padding.specs.Padding.{signOf, prefixOf}
 use Rattle.padding.specs.declared.Pad.{Pad}
 use Rattle.padding.proofs.Padding.{padded-is, padded-length}

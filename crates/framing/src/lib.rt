@@ -7,17 +7,18 @@ ghost use Prim.Native.Nat.{ℕ, _-_, _<_, _≤_};
 ghost use lib.ListN.{length};
 ghost use Rattle.buffer.specs.AtEnd.{ended};
 ghost use Rattle.digits.specs.Text.{text};
-ghost use Rattle.exponent.specs.Coefficient.{precisionOf, Sized, scaledText};
+ghost use Rattle.exponent.specs.Coefficient.{Sized, scaledText};
 ghost use Rattle.radix.specs.Radix.{digitByte};
+ghost use Rattle.scaling.specs.Coefficient.{precisionOf};
 ghost use Rattle.scientific.specs.Sci.{sci};
 ghost use Rattle.scientific.specs.Layout.{expText};
 ghost use Rattle.writing.specs.Text.{letterOf, framed, bare, plain};
 ghost use Rattle.writing.specs.Promise.{keptAnswer, exponentAnswer, Writes, Places};
 ghost use Rattle.framing.specs.Laid.{Laid};
-use exponent::Precision;
-use exponent::Scaled;
 use exponent::Shown;
 use padding::Pad;
+use scaling::Precision;
+use scaling::Scaled;
 use writing::Options;
 use writing::Written;
 
@@ -161,20 +162,20 @@ fn write_scaled(format: u32, scaled: Scaled, negative: bool, out: &mut [u8]) -> 
     requires { ⌜ Sized scaled ⌝ }
     ensures { λ r. ⌜ Places (bare negative (scaledText (letterOf format) scaled)) (now (out .entry)) r (now (out .exit)) ⌝ }
 {
-    let size = scaled.size();
+    let size = exponent::size(scaled);
     if negative {
         let need = size + 1;
         if out.len() < need {
             return need;
         }
-        scaled.write_at(letter_of(format), out, 1);
+        exponent::write_at(scaled, letter_of(format), out, 1);
         out[0] = b'-';
         return need;
     }
     if out.len() < size {
         return size;
     }
-    scaled.write_at(letter_of(format), out, 0);
+    exponent::write_at(scaled, letter_of(format), out, 0);
     size
 }
 
@@ -182,7 +183,7 @@ fn write_scaled(format: u32, scaled: Scaled, negative: bool, out: &mut [u8]) -> 
 pub fn write_bare_in_full(format: u32, n: u64, negative: bool, out: &mut [u8]) -> usize
     ensures { λ r. ⌜ (sci none n .expo ≤ 99) × Places (bare negative (expText (letterOf format) none n)) (now (out .entry)) r (now (out .exit)) ⌝ }
 {
-    write_scaled(format, exponent::in_full(n), negative, out)
+    write_scaled(format, scaling::in_full(n), negative, out)
 }
 
 // The exponent form with nothing around it but a minus.
@@ -199,7 +200,7 @@ pub fn write_bare_exponent(
     let Precision::Digits(_) = precision else {
         return writing::settle(write_bare_in_full(format, n, negative, out), room);
     };
-    let scaled = exponent::scale(n, precision);
+    let scaled = scaling::scale(n, precision);
     if 99 < scaled.exp {
         return Written::ExponentRefused;
     }

@@ -8,16 +8,16 @@
 use fields::lines;
 use fields::output;
 
-mod formatted;
 mod list;
 mod row;
+mod three;
 
 fn answer(line: &[u8], out: &mut [u8; 4096], waiting: usize) -> usize {
     if line.len() < 2 {
         return output::put(out, waiting, b'?');
     }
     match line[0] {
-        b'p' => formatted::answer(line, out, waiting),
+        b'p' => three::answer(line, out, waiting),
         b'l' => list::answer(line, out, waiting),
         _ => output::put(out, waiting, b'?'),
     }

@@ -2,9 +2,9 @@
 use fields::narrow::half;
 use fields::narrow::word;
 use fields::output;
-use parts::Measured;
+use part_answers::Measured;
+use part_answers::Wrote;
 use parts::Part;
-use parts::Wrote;
 
 // What the parts copy from, as far as the line says.
 pub const SOURCE: [u8; 26] = *b"abcdefghijklmnopqrstuvwxyz";

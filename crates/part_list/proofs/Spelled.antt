@@ -6,14 +6,14 @@ use mir.Val.{Val}
 use denote.Laws.{Is}
 use denote.Steps.{only}
 use denote.Enum.Laws as EL
-use Rattle.parts.specs.declared.Measured.{Measured}
-use Rattle.parts.specs.declared.Measured.the-variants as measure
-use Rattle.parts.specs.declared.Wrote.{Wrote}
-use Rattle.parts.specs.declared.Wrote.the-variants as write
-use Rattle.parts.proofs.Measured as S
-use Rattle.parts.proofs.Measured.Laws as S′
-use Rattle.parts.proofs.Wrote as R
-use Rattle.parts.proofs.Wrote.Laws as R′
+use Rattle.part_answers.specs.declared.Measured.{Measured}
+use Rattle.part_answers.specs.declared.Measured.the-variants as measure
+use Rattle.part_answers.specs.declared.Wrote.{Wrote}
+use Rattle.part_answers.specs.declared.Wrote.the-variants as write
+use Rattle.part_answers.proofs.Measured as S
+use Rattle.part_answers.proofs.Measured.Laws as S′
+use Rattle.part_answers.proofs.Wrote as R
+use Rattle.part_answers.proofs.Wrote.Laws as R′
 
 pub spelled : (c : Measured) (u : Val) → Is S.the-row c (u ∷ []) → u ≡ S′.lowered c
 spelled (measure.Done n) u is = ap only (EL.tells S.the-type S′.the-laws (measure.Done n) (u ∷ []) is)

@@ -5,20 +5,20 @@ ghost use mathlib.Core.Path.{_≡_};
 ghost use Prim.Native.Nat.{_-_, _≤_};
 ghost use lib.ListN.{length, take};
 ghost use Rattle.buffer.specs.AtEnd.{ended};
+ghost use Rattle.part_answers.specs.Answers.{measured, Writes};
 ghost use Rattle.parts.specs.Parts.{textOf, Inside, trueLength};
-ghost use Rattle.parts.specs.Answers.{measured, Writes};
-use parts::Measured;
+use part_answers::Measured;
+use part_answers::Wrote;
 use parts::Part;
-use parts::Wrote;
 
 // The length over a source of so many bytes.
 pub fn length(sign: u32, list: &[Part], source: usize) -> Measured
     ensures { λ r. ⌜ r ≡ measured source sign (now (list .entry)) ⌝ }
 {
-    let mut past = parts::scan_start(sign);
+    let mut past = part_answers::scan_start(sign);
     let mut i: usize = 0;
     while i < list.len() {
-        past = parts::scan_step(past, list[i], i, source);
+        past = part_answers::scan_step(past, list[i], i, source);
         i = i + 1;
     }
     past
@@ -42,7 +42,7 @@ pub fn write_before(sign: u32, list: &[Part], src: &[u8], out: &mut [u8], end: u
 pub fn write(sign: u32, list: &[Part], src: &[u8], out: &mut [u8]) -> Wrote
     ensures { λ r. ⌜ Writes sign (now (list .entry)) (now (src .entry)) (now (out .entry)) r (now (out .exit)) ⌝ }
 {
-    let answer = parts::judge(length(sign, list, src.len()), out.len());
+    let answer = part_answers::judge(length(sign, list, src.len()), out.len());
     if answer.number() == 0 {
         write_before(sign, list, src, out, answer.value() as usize);
     }

@@ -1,5 +1,4 @@
 -- Laws that belong to no one function.
 pub mod Text
-pub mod Answers
 pub mod Writing
 pub mod Examples

@@ -1,3 +1,2 @@
--- Parts: their text, its length, and the answers of the entries that write them.
+-- Parts: their text and its length.
 pub mod Parts
-pub mod Answers

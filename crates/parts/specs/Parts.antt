@@ -7,7 +7,6 @@ use lib.Dec.{leb, ltb}
 use lib.ListN.{length, take, drop, replicate}
 use Rattle.digits.specs.Text.{decimal}
 use Rattle.parts.specs.declared.Part.{Part}
-use Rattle.parts.specs.declared.Formatted.{Formatted}
 
 -- What a code stands for, of three things in their order. A code above 2 is unknown: it is refused, and nothing else is said of it.
 abbrev pub byCode : {A : Type 0} → ℕ → A → A → A → A
@@ -60,10 +59,6 @@ trueLength sign ps = length (signText sign) + partsLength ps
 
 abbrev pub held : ℕ → ℕ
 held n = min n (2 ^ 64 - 1)
-
--- Three parts by value are a list of three.
-abbrev pub partsOf : Formatted → List Part
-partsOf f = f .first ∷ f .second ∷ f .third ∷ []
 
 -- The parts that the Rust names Zero, Num and Copy.
 abbrev pub zeroPart : ℕ → Part

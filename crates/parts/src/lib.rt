@@ -1,14 +1,12 @@
-// Parts of a text: a sign, then zeros, numbers in decimal and copied runs of one lent source. Their length and their writing, three by value.
-// Carries over Part and Formatted of num/imp/fmt.rs. A kind is a code and a copied run a start and a length, since no enum holds a reference.
+// Parts of a text: a sign, then zeros, numbers in decimal and copied runs of one lent source. The length and the writing of each.
+// Carries over Part of num/imp/fmt.rs. A kind is a code and a copied run a start and a length, since no enum holds a reference.
 ghost use mathlib.Core.Path.{_≡_};
 ghost use mathlib.Core.Bool.{false};
-ghost use mathlib.Core.List.{List, [], _∷_, _++_};
-ghost use Prim.Native.Nat.{ℕ, _+_, _-_, _^_, _≤_, _<_};
+ghost use Prim.Native.Nat.{_-_, _≤_};
 ghost use lib.ListN.{length};
 ghost use Rattle.buffer.specs.AtEnd.{ended};
 ghost use Rattle.digits.specs.Text.{decimal};
-ghost use Rattle.parts.specs.Parts.{signText, partText, textOf, leavesSource, Inside, partLength, trueLength, held, partsOf, zeroPart, numPart, copyPart};
-ghost use Rattle.parts.specs.Answers.{measured, wrote, Writes, measuredNumber, measuredValue, wroteNumber, wroteValue};
+ghost use Rattle.parts.specs.Parts.{signText, partText, leavesSource, partLength, zeroPart, numPart, copyPart};
 
 // A part by its kind code: 0, so many zeros; 1, a number; 2, the run of len bytes of the source from start on.
 pub struct Part {
@@ -17,75 +15,6 @@ pub struct Part {
     pub zeros: u64,
     pub start: u64,
     pub len: u64,
-}
-
-// A sign code (0 none, 1 minus, 2 plus) and three parts behind it.
-pub struct Formatted {
-    pub sign: u32,
-    pub first: Part,
-    pub second: Part,
-    pub third: Part,
-}
-
-// What the length is, or why there is none.
-pub enum Measured {
-    Done(u64),
-    OptionsRefused,
-    PartRefused(usize),
-}
-
-// What became of writing.
-pub enum Wrote {
-    Done(u64),
-    OptionsRefused,
-    PartRefused(usize),
-    NoRoom(u64),
-}
-
-impl Measured {
-    pub fn number(self) -> u32
-        ensures { λ r. ⌜ r ≡ measuredNumber self ⌝ }
-    {
-        match self {
-            Measured::Done(_) => 0,
-            Measured::OptionsRefused => 6,
-            Measured::PartRefused(_) => 9,
-        }
-    }
-
-    pub fn value(self) -> u64
-        ensures { λ r. ⌜ r ≡ measuredValue self ⌝ }
-    {
-        match self {
-            Measured::Done(n) => n,
-            Measured::OptionsRefused => 0,
-            Measured::PartRefused(i) => i as u64,
-        }
-    }
-}
-
-impl Wrote {
-    pub fn number(self) -> u32
-        ensures { λ r. ⌜ r ≡ wroteNumber self ⌝ }
-    {
-        match self {
-            Wrote::Done(_) => 0,
-            Wrote::OptionsRefused => 6,
-            Wrote::PartRefused(_) => 9,
-            Wrote::NoRoom(_) => 8,
-        }
-    }
-
-    pub fn value(self) -> u64
-        ensures { λ r. ⌜ r ≡ wroteValue self ⌝ }
-    {
-        match self {
-            Wrote::Done(n) => n,
-            Wrote::OptionsRefused => 0,
-            Wrote::PartRefused(i) => i as u64,
-            Wrote::NoRoom(n) => n,
-        }
-    }
 }
 
 impl Part {
@@ -189,7 +118,7 @@ fn write_number(v: u16, out: &mut [u8], end: usize) -> usize
     at
 }
 
-fn sign_length(sign: u32) -> u64
+pub fn sign_length(sign: u32) -> u64
     ensures { λ r. ⌜ r ≡ length (signText sign) ⌝ }
 {
     if sign == 0 { 0 } else { 1 }
@@ -210,105 +139,4 @@ pub fn write_sign(sign: u32, out: &mut [u8], end: usize) -> usize
     }
     out[at] = b'+';
     at
-}
-
-// A sum that is held at the greatest.
-fn add_held(sum: u64, n: u64) -> u64
-    ensures { λ r. ⌜ r ≡ held (sum + n) ⌝ }
-{
-    if n < 18446744073709551615 - sum {
-        sum + n
-    } else {
-        18446744073709551615
-    }
-}
-
-// The answer for the sign, with no part yet.
-pub fn scan_start(sign: u32) -> Measured
-    ensures { λ r. ⌜ ((n : ℕ) → r ≡ measured n sign []) ⌝ }
-{
-    if sign <= 2 {
-        return Measured::Done(sign_length(sign));
-    }
-    Measured::OptionsRefused
-}
-
-// From the answer for the i parts so far to that for one part more.
-pub fn scan_step(past: Measured, part: Part, i: usize, source: usize) -> Measured
-    ensures { λ r. ⌜ ((sign : ℕ) (ps : List Part) → i ≡ length ps → past ≡ measured source sign ps → r ≡ measured source sign (ps ++ (part ∷ []))) ⌝ }
-{
-    if 2 < part.kind {
-        return Measured::OptionsRefused;
-    }
-    match past {
-        Measured::Done(sum) => {
-            if part.leaves(source) {
-                return Measured::PartRefused(i);
-            }
-            Measured::Done(add_held(sum, part.length()))
-        }
-        Measured::OptionsRefused => Measured::OptionsRefused,
-        Measured::PartRefused(first) => Measured::PartRefused(first),
-    }
-}
-
-// From the answer of the length to that of writing into so many bytes. The held sum suffices, since no buffer is as long.
-pub fn judge(found: Measured, room: usize) -> Wrote
-    requires { ⌜ room < 2 ^ 63 ⌝ }
-    ensures { λ r. ⌜ ((n sign : ℕ) (ps : List Part) → found ≡ measured n sign ps → r ≡ wrote n room sign ps) ⌝ }
-{
-    match found {
-        Measured::Done(need) => {
-            if (room as u64) < need {
-                return Wrote::NoRoom(need);
-            }
-            Wrote::Done(need)
-        }
-        Measured::OptionsRefused => Wrote::OptionsRefused,
-        Measured::PartRefused(first) => Wrote::PartRefused(first),
-    }
-}
-
-impl Formatted {
-    // The length over a source of so many bytes.
-    pub fn length(self, source: usize) -> Measured
-        ensures { λ r. ⌜ r ≡ measured source (self .sign) (partsOf self) ⌝ }
-    {
-        let none = scan_start(self.sign);
-        let one = scan_step(none, self.first, 0, source);
-        let two = scan_step(one, self.second, 1, source);
-        scan_step(two, self.third, 2, source)
-    }
-
-    // The text at the start of out. Everything is checked before the first byte is written.
-    pub fn write(self, src: &[u8], out: &mut [u8]) -> Wrote
-        ensures { λ r. ⌜ Writes (self .sign) (partsOf self) (now (src .entry)) (now (out .entry)) r (now (out .exit)) ⌝ }
-    {
-        let answer = judge(self.length(src.len()), out.len());
-        let Wrote::Done(need) = answer else {
-            return answer;
-        };
-        self.write_before(src, out, need as usize);
-        answer
-    }
-
-    // The length of parts that are known to fit.
-    pub fn size(self) -> usize
-        requires { ⌜ trueLength (self .sign) (partsOf self) < 2 ^ 64 ⌝ }
-        ensures { λ r. ⌜ r ≡ trueLength (self .sign) (partsOf self) ⌝ }
-    {
-        let parts = self.first.length() + self.second.length() + self.third.length();
-        (sign_length(self.sign) + parts) as usize
-    }
-
-    // The text just before end, with no check: for a caller who has made them all. Its start is handed back.
-    pub fn write_before(self, src: &[u8], out: &mut [u8], end: usize) -> usize
-        requires { ⌜ Inside (length (now src)) (partsOf self) × (trueLength (self .sign) (partsOf self) ≤ end) × (end ≤ length (now out)) ⌝ }
-        ensures { λ r. ⌜ (r ≡ end - trueLength (self .sign) (partsOf self)) × (now (out .exit) ≡ ended (now (out .entry)) end (textOf (self .sign) (now (src .entry)) (partsOf self))) ⌝ }
-    {
-        let third = self.third.write_before(src, out, end);
-        let second = self.second.write_before(src, out, third);
-        let first = self.first.write_before(src, out, second);
-        write_sign(self.sign, out, first)
-    }
 }

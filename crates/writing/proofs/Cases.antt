@@ -13,14 +13,14 @@ use lib.ListN.{length}
 use Rattle.buffer.specs.AtEnd.{ended, begun}
 use Rattle.buffer.proofs.AtEnd.{ended-whole}
 use Rattle.digits.specs.Text.{decimal}
-use Rattle.exponent.specs.Coefficient.{precisionOf}
-use Rattle.exponent.specs.declared.Precision.{Precision}
-use Rattle.exponent.specs.declared.Precision.the-variants.{None}
 use Rattle.kinds.specs.Kinds.{known, inType, meaning, negative, pattern, splitOf}
 use Rattle.kinds.specs.declared.Split.{Split}
 use Rattle.padding.specs.Padding.{signOf, prefixOf}
 use Rattle.padding.proofs.Padding.{plan-none, padded-is}
 use Rattle.radix.specs.Radix.{radix}
+use Rattle.scaling.specs.Coefficient.{precisionOf}
+use Rattle.scaling.specs.declared.Precision.{Precision}
+use Rattle.scaling.specs.declared.Precision.the-variants.{None}
 use Rattle.scientific.specs.Layout.{expText}
 use Rattle.scientific.specs.Sci.{sci}
 use Rattle.writing.specs.Promise.{house, Unframed, optionsKnown, settled, fitted, after, keptAnswer, exponentAnswer, answerOf, answer, Writes, Places}

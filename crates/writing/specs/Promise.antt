@@ -8,10 +8,10 @@ use lib.Dec.{leb}
 use lib.IntN.{ℤ, natAbs}
 use lib.ListN.{length}
 use Rattle.buffer.specs.AtEnd.{begun}
-use Rattle.exponent.specs.Coefficient.{precisionOf}
-use Rattle.exponent.specs.declared.Precision.{Precision}
-use Rattle.exponent.specs.declared.Precision.the-variants.{None}
 use Rattle.kinds.specs.Kinds.{known, inType, meaning}
+use Rattle.scaling.specs.Coefficient.{precisionOf}
+use Rattle.scaling.specs.declared.Precision.{Precision}
+use Rattle.scaling.specs.declared.Precision.the-variants.{None}
 use Rattle.scientific.specs.Layout.{expText}
 use Rattle.scientific.specs.Sci.{sci}
 use Rattle.writing.specs.Text.{letterOf, framed, textOf}

@@ -7,9 +7,9 @@ use lib.Dec.{eqb, leb}
 use lib.IntN.{ℤ, natAbs}
 use Rattle.digits.specs.Text.{decimal}
 use Rattle.kinds.specs.Kinds.{negative, pattern}
-use Rattle.exponent.specs.Coefficient.{precisionOf}
 use Rattle.padding.specs.Padding.{signOf, prefixOf, padded}
 use Rattle.radix.specs.Radix.{radix}
+use Rattle.scaling.specs.Coefficient.{precisionOf}
 use Rattle.scientific.specs.Layout.{expText}
 use Rattle.writing.specs.declared.Options.{Options}
 

@@ -2,7 +2,7 @@
 // The text of a call and the promise of every writing entry are this crate's specs/.
 ghost use mathlib.Core.Path.{_≡_};
 ghost use Rattle.writing.specs.Promise.{house, optionsKnown, settled, number, value};
-use exponent::Precision;
+use scaling::Precision;
 
 // The options of a call.
 pub struct Options {

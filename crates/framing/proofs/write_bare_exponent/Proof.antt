@@ -1,8 +1,8 @@
 -- `framing::write_bare_exponent` meets its contract. What was scaled is the text. Assumes nothing.
 use mathlib.Core.Option.{none}
 use native.Mathlib.Omega.{arith}
-use Rattle.exponent.specs.Coefficient.{precisionOf}
 use Rattle.exponent.proofs.Joined.{expo-is, sized, text-is}
+use Rattle.scaling.specs.Coefficient.{precisionOf}
 use Rattle.writing.specs.Text.{letterOf}
 use Rattle.writing.proofs.Cases.{settles, exponent-refused, exponent-kept}
 use borrow.Author.Needs.{needs}

@@ -4,8 +4,8 @@ use mathlib.Core.Path.{_≡_, sym, _∙_}
 use Prim.Native.Nat.{ℕ, _+_}
 use native.Mathlib.Omega.{arith}
 use lib.ListN.{length}
-use Rattle.exponent.specs.Coefficient.{precisionOf}
 use Rattle.padding.specs.Padding.{signOf, prefixOf}
+use Rattle.scaling.specs.Coefficient.{precisionOf}
 use Rattle.scientific.specs.Layout.{expText}
 use Rattle.framing.specs.Laid.{Laid}
 use Rattle.writing.specs.Text.{letterOf}

@@ -44,13 +44,13 @@ use denote.Triple.Table.{entered, cited}
 use denote.Triple.Clauses.{ensured, lasts}
 use denote.Triple.Walked.{says, needs, Stays, stay-none, stay-dropped, walkOf, goes-none, goes-dropped, Walks, ends-at, walked, walk-meets}
 use denote.Exit.{yes}
-use Rattle.parts.specs.Answers.{measured}
-use Rattle.parts.specs.declared.Measured.{Measured}
+use Rattle.part_answers.specs.Answers.{measured}
+use Rattle.part_answers.specs.declared.Measured.{Measured}
+use Rattle.part_answers.proofs.Measured as S
+use Rattle.part_answers.proofs.Measured.Laws as S′
 use Rattle.parts.specs.declared.Part.{Part}
 use Rattle.parts.proofs.Part as T
 use Rattle.parts.proofs.Part.Laws as T′
-use Rattle.parts.proofs.Measured as S
-use Rattle.parts.proofs.Measured.Laws as S′
 use Rattle.part_list.proofs.Twelve.{Arr, arrTy, vals, lent-count, roomy, Cells, Behind, apart, together}
 use Rattle.part_list.proofs.length as measure
 use Rattle.part_list.proofs.length.Symbol as measure-def

@@ -44,13 +44,13 @@ use denote.Triple.Table.{entered, cited}
 use denote.Triple.Clauses.{ensured, lasts}
 use denote.Triple.Walked.{says, needs, Stays, stay-none, stay-dropped, stay-none-slice, gave-slice, walkOf, goes-none, goes-dropped, goes-none-slice, goes-gave-slice, Walks, ends-at, walked, walk-meets}
 use denote.Exit.{yes}
-use Rattle.parts.specs.Answers.{Writes}
+use Rattle.part_answers.specs.Answers.{Writes}
+use Rattle.part_answers.specs.declared.Wrote.{Wrote}
+use Rattle.part_answers.proofs.Wrote as R
+use Rattle.part_answers.proofs.Wrote.Laws as R′
 use Rattle.parts.specs.declared.Part.{Part}
-use Rattle.parts.specs.declared.Wrote.{Wrote}
 use Rattle.parts.proofs.Part as T
 use Rattle.parts.proofs.Part.Laws as T′
-use Rattle.parts.proofs.Wrote as R
-use Rattle.parts.proofs.Wrote.Laws as R′
 use Rattle.part_list.proofs.Twelve.{Arr, arrTy, vals, lent-count, roomy, Cells, Behind, apart, together}
 use Rattle.part_list.proofs.write as write
 use Rattle.part_list.proofs.write.Symbol as write-def

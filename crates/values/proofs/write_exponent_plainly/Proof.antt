@@ -1,8 +1,8 @@
 -- `values::write_exponent_plainly` meets its contract, for all options that put nothing around the digits. Assumes nothing.
 use mathlib.Core.Path.{refl}
 use lib.ListN.{length}
-use Rattle.exponent.specs.Coefficient.{precisionOf}
 use Rattle.kinds.specs.Kinds.{meaning}
+use Rattle.scaling.specs.Coefficient.{precisionOf}
 use Rattle.scientific.specs.Layout.{expText}
 use Rattle.writing.specs.Text.{letterOf}
 use Rattle.writing.proofs.Cases.{exponent-writes, framed-bare}

@@ -2,7 +2,7 @@
 use mathlib.Core.List.{List}
 use Prim.Native.Nat.{ℕ}
 use native.Mathlib.Omega.{arith}
-use Rattle.exponent.specs.declared.Precision.{Precision}
+use Rattle.scaling.specs.declared.Precision.{Precision}
 use Rattle.kinds.specs.Kinds.{meaning}
 use Rattle.writing.specs.declared.Options.{Options}
 use Rattle.writing.specs.Promise.{Unframed, Places}

@@ -5,8 +5,8 @@ use mathlib.Core.Path.{_≡_, refl, sym, _∙_}
 use borrow.Author.Tests.{not-true, not-false}
 use native.Mathlib.Omega.{arith}
 use lib.ListN.{length}
-use Rattle.exponent.specs.declared.Precision.the-variants.{None}
 use Rattle.kinds.specs.Kinds.{known, inType, meaning}
+use Rattle.scaling.specs.declared.Precision.the-variants.{None}
 use Rattle.scientific.specs.Layout.{expText}
 use Rattle.writing.specs.Promise.{house}
 use Rattle.writing.specs.Text.{letterOf}

@@ -1,0 +1,2 @@
+-- Three parts by value.
+pub mod Three

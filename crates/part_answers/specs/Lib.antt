@@ -1,0 +1,2 @@
+-- The answers of the entries that write parts.
+pub mod Answers

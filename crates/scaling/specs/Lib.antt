@@ -1,0 +1,2 @@
+-- What the code of the coefficient and the exponent computes.
+pub mod Coefficient
