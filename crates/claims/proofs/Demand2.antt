@@ -8,9 +8,9 @@ use lib.Dec.{eqb}
 use lib.IntN.{ℤ, pos, negsuc}
 use lib.ListN.{length}
 use Rattle.digits.specs.Digits.{upTo, bare, digits}
-use Rattle.digits.specs.Text.{text, decimal, signed}
+use Rattle.digits.specs.Text.{text, signed}
 use Rattle.digits.proofs.Digits.{canonical, unique}
-use Rattle.kinds.specs.Kinds.{known, inType, pattern, negative}
+use Rattle.kinds.specs.Kinds.{known, inType, pattern}
 use Rattle.kinds.proofs.Sizes.{greatest-unsigned, greatest-signed}
 use Rattle.padding.specs.Padding.{signOf, prefixOf, beforeOf, zerosOf, behindOf}
 use Rattle.padding.proofs.Padding.{padded-length}

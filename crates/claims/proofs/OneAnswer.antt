@@ -1,6 +1,7 @@
 -- One answer to each promise, from the laws of the layers. Assumes nothing.
 use Rattle.decimal.proofs.Ends as ends
 use Rattle.edge.proofs.Edge as edge
+use Rattle.kinds.proofs.Sizes as sizes
 use Rattle.part_answers.proofs.Answers as parting
 use Rattle.reader.proofs.Outcomes as reading
 use Rattle.writing.proofs.Cases as writing
@@ -17,4 +18,5 @@ one-answer = record {
   parts = λ sign ps src out r s m n p q. parting.one-answer p q;
   edge-write = λ t a l n v k w m m′ p q. edge.one-answer p q;
   edge-read = λ sgn bits format t n v k w p q. edge.one-reading p q;
+  size = λ sgn bits m n k p q. sizes.one-answer (p k) (q k);
 }

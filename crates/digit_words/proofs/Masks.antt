@@ -1,39 +1,24 @@
--- What the test of a word says of each of its bytes, and the bytes of a word of digits as text. Over how many bytes it has.
+-- What the test of a word says of each of its bytes. Over how many bytes it has.
 -- Assumes nothing.
-use mathlib.Core.List.{List, _∷_, map}
-use mathlib.Core.Path.{_≡_, refl, sym, ap, _∙_}
-use Prim.Native.Nat.{ℕ, zero, suc, _+_, _*_, _/_, _%_, _^_, _<_}
-use native.Mathlib.Nat.{div-add-mod', mod-lt, mod-eq-of-lt, pow-suc}
+use mathlib.Core.List.{List, [], _∷_, map}
+use mathlib.Core.Path.{_≡_, sym, ap, _∙_, subst}
+use Prim.Native.Nat.{ℕ, zero, suc, _+_, _*_, _/_, _%_, _^_, _≤_, _<_}
+use native.Mathlib.Nat.{div-add-mod', mod-lt, mod-eq-of-lt}
 use native.Mathlib.Omega.{arith}
-use lib.Arith.{digits-div, digits-mod}
 use lib.Bits.{bitAnd, bitOr, and-block, and-high, and-le-l, and-le-r, or-add-and}
-use lib.Dec.{lit<}
+use lib.Dec.{lit<, lit≤}
+use lib.ListN.{replicate}
 use Rattle.digits.specs.Digits.{Below}
-use Rattle.digits.specs.Text.{ascii}
+use Rattle.lanes.specs.Lanes.{word}
+use Rattle.lanes.proofs.Letters.{bytes-more, bytes-most}
 use Rattle.words.specs.Bytes.{bytesOf}
-use Rattle.words.proofs.Bytes.{bytes-cons}
-
-pub div-is : {x : ℕ} (q r m : ℕ) → x ≡ q * m + r → r < m → x / m ≡ q
-div-is q r m e h = ap (λ (x : ℕ). x / m) e ∙ digits-div q h
-
-pub mod-is : {x : ℕ} (q r m : ℕ) → x ≡ q * m + r → r < m → x % m ≡ r
-mod-is q r m e h = ap (λ (x : ℕ). x % m) e ∙ digits-mod q h
 
 pub or-zero : (a b : ℕ) → bitOr a b ≡ 0 → (a ≡ 0) × (b ≡ 0)
 or-zero a b e = let s = or-add-and a b in let l = and-le-l a b in let r = and-le-r a b in (omega arith, omega arith)
 
--- the upper half of each of k bytes, 6 in each, and the byte of `0` in each
-unfoldable pub mask : ℕ → ℕ
-mask zero = 0
-mask (suc k) = mask k * 256 + 240
-
-unfoldable pub sixes : ℕ → ℕ
-sixes zero = 0
-sixes (suc k) = sixes k * 256 + 6
-
-unfoldable pub zeros : ℕ → ℕ
-zeros zero = 0
-zeros (suc k) = zeros k * 256 + 48
+-- the upper half of each of k bytes
+abbrev pub mask : ℕ → ℕ
+mask k = word 256 (replicate k 240)
 
 -- a byte has nothing in its upper half
 none : (r : ℕ) → r < 256 → bitAnd r 240 ≡ 0 → r < 16
@@ -42,80 +27,29 @@ none r h e =
     let g : r / 16 % 16 ≡ r / 16 = mod-eq-of-lt (omega arith) in
     omega arith
 
--- the lowest byte, and those above it
-module _ (k a r : ℕ) (l : r < 256) (e : bitAnd (a * 256 + r) (mask (suc k)) ≡ 0) where
-  both : bitAnd a (mask k) * 256 + bitAnd r 240 ≡ 0
-  unfolding mask
-  both = sym (and-block 8 a (mask k) r 240 l (lit< tt)) ∙ e
-
-  rest : bitAnd a (mask k) ≡ 0
-  rest = omega (arith, both)
-
-  lowest : r < 16
-  lowest = none r l (omega (arith, both))
-
 -- where the upper halves are empty, each byte is below 16
 pub halved : (k w : ℕ) → bitAnd w (mask k) ≡ 0 → Below 16 (bytesOf k w)
-unfolding Below bytesOf
+unfolding Below bytesOf word
 halved zero w e = tt
 halved (suc k) w e =
     let l : w % 256 < 256 = mod-lt w (lit< tt) in
-    let f : bitAnd (w / 256 * 256 + w % 256) (mask (suc k)) ≡ 0 = ap (λ (x : ℕ). bitAnd x (mask (suc k))) (div-add-mod' w 256) ∙ e in
-    (lowest k (w / 256) (w % 256) l f, halved k (w / 256) (rest k (w / 256) (w % 256) l f))
+    let both : bitAnd (w / 256) (mask k) * 256 + bitAnd (w % 256) 240 ≡ 0 =
+    sym (and-block 8 (w / 256) (mask k) (w % 256) 240 l (lit< tt)) ∙ ap (λ (x : ℕ). bitAnd x (mask (suc k))) (div-add-mod' w 256) ∙ e in
+    (none (w % 256) l (omega (arith, both)), halved k (w / 256) (omega (arith, both)))
 
--- where the upper halves are empty, a sum with 6 in each byte stays in its bytes
-pub no-carry : (k w : ℕ) → w < 256 ^ k → bitAnd w (mask k) ≡ 0 → w + sixes k < 256 ^ k
-unfolding sixes
-no-carry zero w h e = omega arith
-no-carry (suc k) w h e =
-    let d : w / 256 * 256 + w % 256 ≡ w = div-add-mod' w 256 in
-    let l : w % 256 < 256 = mod-lt w (lit< tt) in
-    let p : 256 ^ suc k ≡ 256 ^ k * 256 = pow-suc 256 k in
-    let f : bitAnd (w / 256 * 256 + w % 256) (mask (suc k)) ≡ 0 = ap (λ (x : ℕ). bitAnd x (mask (suc k))) d ∙ e in
-    let i = no-carry k (w / 256) (omega arith) (rest k (w / 256) (w % 256) l f) in
-    let n = lowest k (w / 256) (w % 256) l f in
-    omega arith
+less : (c b : ℕ) (ds : List ℕ) → Below (c + b) (map (λ (d : ℕ). c + d) ds) → Below b ds
+unfolding Below
+less c b [] h = tt
+less c b (d ∷ ds) h = (omega (arith, h .0), less c b ds (h .1))
 
-sum : (k w : ℕ) → (w / 256 + sixes k) * 256 + (w % 256 + 6) ≡ w + sixes (suc k)
-unfolding sixes
-sum k w = omega (arith, div-add-mod' w 256)
+sixes-fit : (w : ℕ) → w ≤ 0x0f0f_0f0f_0f0f_0f0f → w + 0x0606_0606_0606_0606 < 2 ^ 64
+sixes-fit w h = omega arith
 
--- the two tests leave digits only
-pub tested : (k w : ℕ) → bitAnd w (mask k) ≡ 0 → bitAnd (w + sixes k) (mask k) ≡ 0 → Below 10 (bytesOf k w)
-unfolding Below bytesOf
-tested zero w e f = tt
-tested (suc k) w e f = (digit, tested k (w / 256) (rest k (w / 256) (w % 256) l e') (rest k (w / 256 + sixes k) (w % 256 + 6) l' f'))
-  where
-    l : w % 256 < 256
-    l = mod-lt w (lit< tt)
-
-    e' : bitAnd (w / 256 * 256 + w % 256) (mask (suc k)) ≡ 0
-    e' = ap (λ (x : ℕ). bitAnd x (mask (suc k))) (div-add-mod' w 256) ∙ e
-
-    l' : w % 256 + 6 < 256
-    l' = omega (arith, lowest k (w / 256) (w % 256) l e')
-
-    f' : bitAnd ((w / 256 + sixes k) * 256 + (w % 256 + 6)) (mask (suc k)) ≡ 0
-    f' = ap (λ (x : ℕ). bitAnd x (mask (suc k))) (sum k w) ∙ f
-
-    digit : w % 256 < 10
-    digit = omega (arith, lowest k (w / 256 + sixes k) (w % 256 + 6) l' f')
-
-raised : (k w : ℕ) → w + zeros (suc k) ≡ (w / 256 + zeros k) * 256 + (48 + w % 256)
-unfolding zeros
-raised k w = omega (arith, div-add-mod' w 256)
-
--- the bytes of digits, each 48 above its digit
-pub figured : (k w : ℕ) → Below 10 (bytesOf k w) → bytesOf k (w + zeros k) ≡ map ascii (bytesOf k w)
-unfolding Below bytesOf
-figured zero w d = refl
-figured (suc k) w d =
-    ap (bytesOf (suc k)) (raised k w) ∙ bytes-cons k (w / 256 + zeros k) (48 + w % 256) (omega (arith, d .0)) ∙ ap (λ (l : List ℕ). (48 + w % 256) ∷ l) (figured k (w / 256) (d .1))
-
--- ---- words of eight bytes
-
-pub faultless : (w more : ℕ) → w < 2 ^ 64 → more ≡ (w + sixes 8) % 2 ^ 64 → bitOr (bitAnd w (mask 8)) (bitAnd more (mask 8)) ≡ 0 → Below 10 (bytesOf 8 w)
+-- with 6 more the upper halves stay empty below ten alone
+pub faultless : (w more : ℕ) → w < 2 ^ 64 → more ≡ (w + 0x0606_0606_0606_0606) % 2 ^ 64 → bitOr (bitAnd w (mask 8)) (bitAnd more (mask 8)) ≡ 0 → Below 10 (bytesOf 8 w)
+unfolding word
 faultless w more h e z =
     let o = or-zero (bitAnd w (mask 8)) (bitAnd more (mask 8)) z in
-    let m : more ≡ w + sixes 8 = e ∙ mod-eq-of-lt (no-carry 8 w h (o .0)) in
-    tested 8 w (o .0) (ap (λ (x : ℕ). bitAnd x (mask 8)) (sym m) ∙ o .1)
+    let low : Below 16 (bytesOf 8 w) = halved 8 w (o .0) in
+    let m : more ≡ w + 0x0606_0606_0606_0606 = e ∙ mod-eq-of-lt (sixes-fit w (bytes-most 8 w 15 h low)) in
+    less 6 10 (bytesOf 8 w) (subst (Below 16) (ap (bytesOf 8) m ∙ bytes-more 8 w 16 h low 6 (lit≤ tt)) (halved 8 more (o .1)))

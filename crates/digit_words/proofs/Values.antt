@@ -1,148 +1,187 @@
--- The number of eight digits in a word: two of a pair, two pairs of four, two fours of all.
+-- Numbers side by side in a word are gathered two and two: the first times c and the second, in lanes of twice the size. Over the bits of a lane, and c.
+-- So eight digits become their number: in pairs, in fours, and the two fours.
 -- Assumes nothing.
-use mathlib.Core.List.{map}
+use mathlib.Core.List.{List, [], _∷_, map}
 use mathlib.Core.Path.{_≡_, refl, sym, ap, ap₂, _∙_}
-use Prim.Native.Nat.{ℕ, _+_, _*_, _/_, _%_, _^_, _<_, _≤_}
-use native.Mathlib.Nat.{div-add-mod', mod-eq-of-lt}
+use Prim.Native.Nat.{ℕ, zero, suc, _+_, _*_, _-_, _/_, _%_, _^_, _<_, _≤_}
+use native.Mathlib.Nat.{div-add-mod', lt-of-lt-of-le, mul-le-mul, mul-pos, le-mul-of-pos-right, le-of-lt, le-trans, mod-eq-of-lt, mod-lt, pow-suc, pow-zero, zero-div, zero-mod}
 use native.Mathlib.Omega.{arith}
-use lib.Arith.{lt-one}
-use lib.Bits.{bitAnd, and-block, and-mask}
-use lib.Dec.{lit<}
+use lib.Arith.{digits-div, digits-mod, digits-lt}
+use lib.Bits.{bitAnd, and-block, and-le-r, and-mask, and-zero-r}
+use lib.Dec.{lit<, lit≤}
+use lib.ListN.{length, replicate}
+use lib.Pow.{pow-add, pow-pos, ones-lt}
 use Rattle.digits.specs.Digits.{value, valueFrom, Below}
 use Rattle.digits.specs.Text.{ascii}
+use Rattle.digits.proofs.Last.{value-lt}
+use Rattle.lanes.specs.Lanes.{word}
+use Rattle.lanes.proofs.Letters.{word-bytes, bytes-more, bytes-most}
 use Rattle.words.specs.Bytes.{bytesOf}
-use Rattle.digit_words.proofs.Masks.{div-is, mod-is, zeros, figured}
+use Rattle.words.proofs.Bytes.{length-bytesOf}
 
--- one lane of 16 bits whose low byte a mask keeps
-lane : (a l b : ℕ) → l < 65536 → bitAnd (a * 65536 + l) (b * 65536 + 255) ≡ bitAnd a b * 65536 + l % 256
-lane a l b h = and-block 16 a b l 255 h (lit< tt) ∙ ap (λ (y : ℕ). bitAnd a b * 65536 + y) (and-mask l 8)
+-- two and two of a list of even length
+unfoldable pub paired : ℕ → List ℕ → List ℕ
+paired c [] = []
+paired c (x ∷ []) = []
+paired c (x ∷ y ∷ ds) = (x * c + y) ∷ paired c ds
 
--- the first of each two bytes
-pub evens : (e0 e1 e2 e3 e4 e5 e6 e7 : ℕ) → e0 < 256 → e1 < 256 → e2 < 256 → e3 < 256 → e4 < 256 → e5 < 256 → e6 < 256 → e7 < 256
-    → bitAnd ((((e7 * 256 + e6) * 65536 + (e5 * 256 + e4)) * 65536 + (e3 * 256 + e2)) * 65536 + (e1 * 256 + e0)) 0x00ff_00ff_00ff_00ff ≡ ((e6 * 65536 + e4) * 65536 + e2) * 65536 + e0
-evens e0 e1 e2 e3 e4 e5 e6 e7 h0 h1 h2 h3 h4 h5 h6 h7 =
-    let m0 : (e1 * 256 + e0) % 256 ≡ e0 = mod-is e1 e0 256 refl h0 in
-    let m2 : (e3 * 256 + e2) % 256 ≡ e2 = mod-is e3 e2 256 refl h2 in
-    let m4 : (e5 * 256 + e4) % 256 ≡ e4 = mod-is e5 e4 256 refl h4 in
-    let m6 : bitAnd (e7 * 256 + e6) 255 ≡ e6 = and-mask (e7 * 256 + e6) 8 ∙ mod-is e7 e6 256 refl h6 in
-    let s2 = lane (e7 * 256 + e6) (e5 * 256 + e4) 255 (omega arith) ∙ ap₂ (λ (x y : ℕ). x * 65536 + y) m6 m4 in
-    let s1 = lane ((e7 * 256 + e6) * 65536 + (e5 * 256 + e4)) (e3 * 256 + e2) 0x00ff_00ff (omega arith) ∙ ap₂ (λ (x y : ℕ). x * 65536 + y) s2 m2 in
-    lane (((e7 * 256 + e6) * 65536 + (e5 * 256 + e4)) * 65536 + (e3 * 256 + e2)) (e1 * 256 + e0) 0x00ff_00ff_00ff (omega arith) ∙ ap₂ (λ (x y : ℕ). x * 65536 + y) s1 m0
+module _ (c : ℕ) where
+  length-paired : (k : ℕ) (ds : List ℕ) → length ds ≡ k + k → length (paired c ds) ≡ k
+  unfolding paired
+  length-paired k [] e = omega arith
+  length-paired k (x ∷ []) e = absurd (omega arith)
+  length-paired k (x ∷ y ∷ ds) e = let h = length-paired (k - 1) ds (omega arith) in omega arith
 
-abbrev pub word : (d0 d1 d2 d3 d4 d5 d6 d7 : ℕ) → ℕ
-word d0 d1 d2 d3 d4 d5 d6 d7 = (((((((d7 * 256 + d6) * 256 + d5) * 256 + d4) * 256 + d3) * 256 + d2) * 256) + d1) * 256 + d0
+  below-paired : (ds : List ℕ) → Below c ds → Below (c * c) (paired c ds)
+  unfolding paired Below
+  below-paired [] h = tt
+  below-paired (x ∷ []) h = tt
+  below-paired (x ∷ y ∷ ds) h = (digits-lt (h .0) (h .1 .0), below-paired ds (h .1 .1))
 
-abbrev pub pairs : (e0 e2 e4 e6 : ℕ) → ℕ
-pairs e0 e2 e4 e6 = ((e6 * 65536 + e4) * 65536 + e2) * 65536 + e0
+  -- they stand for the same number
+  value-paired : (k n : ℕ) (ds : List ℕ) → length ds ≡ k + k → valueFrom (c * c) n (paired c ds) ≡ valueFrom c n ds
+  unfolding paired valueFrom
+  value-paired k n [] e = refl
+  value-paired k n (x ∷ []) e = absurd (omega arith)
+  value-paired k n (x ∷ y ∷ ds) e =
+      let m : n * (c * c) + (x * c + y) ≡ (n * c + x) * c + y = omega arith in
+      ap (λ (i : ℕ). valueFrom (c * c) i (paired c ds)) m ∙ value-paired (k - 1) ((n * c + x) * c + y) ds (omega arith)
 
--- the digits of a word, and what the code makes of them: four numbers below 100 first
-pub record Paired (w : ℕ) : Type 0 where
-  pub small : w ≤ 0x0909_0909_0909_0909
-  pub e0 : ℕ
-  pub e2 : ℕ
-  pub e4 : ℕ
-  pub e6 : ℕ
-  pub h0 : e0 < 100
-  pub h2 : e2 < 100
-  pub h4 : e4 < 100
-  pub h6 : e6 < 100
-  pub first : bitAnd (w * 10 + w / 256) 0x00ff_00ff_00ff_00ff ≡ pairs e0 e2 e4 e6
-  pub stands : value 10 (bytesOf 8 w) ≡ (e0 * 100 + e2) * 10000 + (e4 * 100 + e6)
+-- ---- a step of the code, in lanes of w bits
 
-module _ (d0 d1 d2 d3 d4 d5 d6 d7 : ℕ) (h0 : d0 < 10) (h1 : d1 < 10) (h2 : d2 < 10) (h3 : d3 < 10) (h4 : d4 < 10) (h5 : d5 < 10) (h6 : d6 < 10) (h7 : d7 < 10) where
-  word-le : word d0 d1 d2 d3 d4 d5 d6 d7 ≤ 0x0909_0909_0909_0909
-  word-le = omega arith
+module _ (w c : ℕ) (some : 0 < c) (small : c * c ≤ 2 ^ w) where
+  narrow : c ≤ 2 ^ w
+  narrow = le-trans (le-mul-of-pos-right c some) small
 
-  next : word d0 d1 d2 d3 d4 d5 d6 d7 / 256 ≡ ((((((d7 * 256 + d6) * 256 + d5) * 256 + d4) * 256 + d3) * 256 + d2) * 256) + d1
-  next = div-is (((((((d7 * 256 + d6) * 256 + d5) * 256 + d4) * 256 + d3) * 256 + d2) * 256) + d1) d0 256 refl (omega arith)
+  -- the lowest lane
+  lowest : (ds : List ℕ) → Below c ds → word (2 ^ w) ds % 2 ^ w < c
+  unfolding word Below
+  lowest [] h = rw (zero-mod (2 ^ w)) some
+  lowest (d ∷ ds) h = rw (digits-mod (word (2 ^ w) ds) (lt-of-lt-of-le (h .0) narrow)) (h .0)
 
-  first-step : bitAnd (word d0 d1 d2 d3 d4 d5 d6 d7 * 10 + word d0 d1 d2 d3 d4 d5 d6 d7 / 256) 0x00ff_00ff_00ff_00ff ≡ pairs (d0 * 10 + d1) (d2 * 10 + d3) (d4 * 10 + d5) (d6 * 10 + d7)
-  first-step =
-      let e : word d0 d1 d2 d3 d4 d5 d6 d7 * 10 + word d0 d1 d2 d3 d4 d5 d6 d7 / 256
-      ≡ ((((d7 * 10) * 256 + (d6 * 10 + d7)) * 65536 + ((d5 * 10 + d6) * 256 + (d4 * 10 + d5))) * 65536 + ((d3 * 10 + d4) * 256 + (d2 * 10 + d3))) * 65536 + ((d1 * 10 + d2) * 256 + (d0 * 10 + d1)) =
-      rw next (omega arith) in
-      ap (λ (x : ℕ). bitAnd x 0x00ff_00ff_00ff_00ff) e
-      ∙ evens (d0 * 10 + d1) (d1 * 10 + d2) (d2 * 10 + d3) (d3 * 10 + d4) (d4 * 10 + d5) (d5 * 10 + d6) (d6 * 10 + d7) (d7 * 10)
-      (omega arith) (omega arith) (omega arith) (omega arith) (omega arith) (omega arith) (omega arith) (omega arith)
+  gathered : (k : ℕ) (ds : List ℕ) → length ds ≡ k + k → Below c ds →
+      bitAnd (word (2 ^ w) ds * c + word (2 ^ w) ds / 2 ^ w) (word (2 ^ w * 2 ^ w) (replicate k (2 ^ w - 1))) ≡ word (2 ^ w * 2 ^ w) (paired c ds)
+  unfolding word paired Below
+  gathered zero [] e h = and-zero-r (0 * c + 0 / 2 ^ w)
+  gathered zero (x ∷ ds) e h = absurd (omega arith)
+  gathered (suc k) [] e h = absurd (omega arith)
+  gathered (suc k) (x ∷ []) e h = absurd (omega arith)
+  gathered (suc k) (x ∷ y ∷ ds) e h =
+      let B = 2 ^ w in
+      let v = word B ds in
+      let m = word (B * B) (replicate k (B - 1)) in
+      let t = x * c + y in
+      let u = y * c + v % B in
+      let ht : t < B = lt-of-lt-of-le (digits-lt (h .0) (h .1 .0)) small in
+      let hu : u < B = lt-of-lt-of-le (digits-lt (h .1 .0) (lowest ds (h .1 .1))) small in
+      let s : 2 ^ (w + w) ≡ B * B = pow-add 2 w w in
+      let n : ((v * B + y) * B + x) / B ≡ v * B + y = digits-div (v * B + y) (lt-of-lt-of-le (h .0) narrow) in
+      let q : (v / B * B + v % B) * B ≡ v * B = ap (λ (z : ℕ). z * B) (div-add-mod' v B) in
+      let i : ((v * B + y) * B + x) * c + (v * B + y) ≡ (v * c + v / B) * (B * B) + (u * B + t) = omega arith in
+      let b = rw s at (and-block (w + w) (v * c + v / B) m (u * B + t) (B - 1) (rw s (digits-lt hu ht)) (rw s (lt-of-lt-of-le (ones-lt w) (le-mul-of-pos-right B (pow-pos w))))) in
+      ap (λ (z : ℕ). bitAnd (((v * B + y) * B + x) * c + z) (m * (B * B) + (B - 1))) n
+      ∙ ap (λ (z : ℕ). bitAnd z (m * (B * B) + (B - 1))) i
+      ∙ b
+      ∙ ap₂ (λ (y z : ℕ). y * (B * B) + z) (gathered k ds (omega arith) (h .1 .1)) (and-mask (u * B + t) w ∙ digits-mod u ht)
 
-  paired : (w : ℕ) → w ≡ word d0 d1 d2 d3 d4 d5 d6 d7 → value 10 (bytesOf 8 w) ≡ ((((((((0 + d0) * 10 + d1) * 10 + d2) * 10 + d3) * 10 + d4) * 10 + d5) * 10 + d6) * 10) + d7 → Paired w
-  paired w e v = record {
-    small = rw e word-le;
-    e0 = d0 * 10 + d1;
-    e2 = d2 * 10 + d3;
-    e4 = d4 * 10 + d5;
-    e6 = d6 * 10 + d7;
-    h0 = omega arith;
-    h2 = omega arith;
-    h4 = omega arith;
-    h6 = omega arith;
-    first = ap (λ (x : ℕ). bitAnd (x * 10 + x / 256) 0x00ff_00ff_00ff_00ff) e ∙ first-step;
-    stands = v ∙ omega arith;
+  -- no lane runs over before the mask
+  room : (ds : List ℕ) → Below c ds → word (2 ^ w) ds * c + word (2 ^ w) ds / 2 ^ w < (2 ^ w) ^ length ds
+  unfolding word Below
+  room [] h = rw (zero-div (2 ^ w), pow-zero) (omega arith)
+  room (x ∷ ds) h =
+      let B = 2 ^ w in
+      let v = word B ds in
+      let n : (v * B + x) / B ≡ v = digits-div v (lt-of-lt-of-le (h .0) narrow) in
+      let u : x * c + v % B < B = lt-of-lt-of-le (digits-lt (h .0) (lowest ds (h .1))) small in
+      let i : (v * B + x) * c + v ≡ (v * c + v / B) * B + (x * c + v % B) = omega (arith, div-add-mod' v B) in
+      rw (n, i, pow-suc B (length ds)) (digits-lt (room ds (h .1)) u)
+
+  pub gather : (k : ℕ) {x : ℕ} (ds : List ℕ) → x ≡ word (2 ^ w) ds → length ds ≡ k + k → Below c ds →
+      (bitAnd (x * c + x / 2 ^ w) (word (2 ^ w * 2 ^ w) (replicate k (2 ^ w - 1))) ≡ word (2 ^ w * 2 ^ w) (paired c ds)) × (x * c + x / 2 ^ w < (2 ^ w) ^ (k + k))
+  gather k ds e n h = rw e (gathered k ds n h, rw n at (room ds h))
+
+-- ---- eight digits
+
+-- the last two, by their quotient and remainder
+ends : (b c : ℕ) {q : ℕ} (ds : List ℕ) → q ≡ word b ds → length ds ≡ 2 → Below c ds → c ≤ b → q % b * c + q / b ≡ value c ds
+unfolding word value valueFrom Below
+ends b c [] e n h l = absurd (omega arith)
+ends b c (x ∷ []) e n h l = absurd (omega arith)
+ends b c (x ∷ y ∷ []) e n h l =
+    let z : 0 * b + y ≡ y = omega arith in
+    rw (e, z, digits-mod y (lt-of-lt-of-le (h .0) l), digits-div y (lt-of-lt-of-le (h .0) l)) (omega arith)
+ends b c (x ∷ y ∷ d ∷ ds) e n h l = absurd (omega arith)
+
+module _ (b w : ℕ) where
+  abbrev twos : List ℕ
+  twos = paired b (bytesOf 8 w)
+
+  abbrev fours : List ℕ
+  fours = paired (b * b) twos
+
+  n2 : length twos ≡ 4
+  n2 = length-paired b 4 (bytesOf 8 w) (length-bytesOf 8 w)
+
+  n4 : length fours ≡ 2
+  n4 = length-paired (b * b) 2 twos n2
+
+  -- the code's steps
+  abbrev pub inTwos : ℕ
+  inTwos = bitAnd (w * b + w / 2 ^ 8) 0x00ff_00ff_00ff_00ff
+
+  abbrev pub inFours : ℕ
+  inFours = bitAnd (inTwos * (b * b) + inTwos / 2 ^ 16) 0x0000_ffff_0000_ffff
+
+  abbrev pub inAll : ℕ
+  inAll = inFours % 2 ^ 32 * (b * b * (b * b)) + inFours / 2 ^ 32
+
+  -- what they are, and that no product or sum runs over
+  pub record Steps : Type 0 where
+    pub square : b * b ≤ 256
+    pub fourth : b * b * (b * b) ≤ 65536
+    pub twos-fit : w * b + w / 2 ^ 8 < 2 ^ 64
+    pub fours-fit : inTwos * (b * b) + inTwos / 2 ^ 16 < 2 ^ 64
+    pub fours-most : inFours ≤ 0x0000_ffff_0000_ffff
+    pub product : inFours % 2 ^ 32 * (b * b * (b * b)) ≤ 4294967296 * 65536
+    pub number : (inAll ≡ value b (bytesOf 8 w)) × (inAll < b ^ 8)
+
+  pub steps : 2 ≤ b → b ≤ 16 → w < 2 ^ 64 → Below b (bytesOf 8 w) → Steps
+  unfolding word value
+  steps big few fits d = record {
+    square = h2;
+    fourth = h4;
+    twos-fit = first .1;
+    fours-fit = second .1;
+    fours-most = and-le-r (inTwos * (b * b) + inTwos / 2 ^ 16) 0x0000_ffff_0000_ffff;
+    product = mul-le-mul (le-of-lt (mod-lt inFours (lit< tt))) h4;
+    number = (is, rw is (rw length-bytesOf at (value-lt b big (bytesOf 8 w) d)));
   }
+    where
+      h2 : b * b ≤ 256
+      h2 = mul-le-mul few few
 
-cut8 : (w w1 w2 w3 w4 w5 w6 w7 w8 d0 d1 d2 d3 d4 d5 d6 d7 : ℕ) → w1 * 256 + d0 ≡ w → w2 * 256 + d1 ≡ w1 → w3 * 256 + d2 ≡ w2 → w4 * 256 + d3 ≡ w3
-    → w5 * 256 + d4 ≡ w4 → w6 * 256 + d5 ≡ w5 → w7 * 256 + d6 ≡ w6 → w8 * 256 + d7 ≡ w7 → w8 ≡ 0 → w ≡ word d0 d1 d2 d3 d4 d5 d6 d7
-cut8 w w1 w2 w3 w4 w5 w6 w7 w8 d0 d1 d2 d3 d4 d5 d6 d7 a0 a1 a2 a3 a4 a5 a6 a7 z = omega arith
+      h4 : b * b * (b * b) ≤ 65536
+      h4 = mul-le-mul h2 h2
 
--- a byte less
-less : (w n : ℕ) → w < n * 256 → w / 256 < n
-less w n h = omega (arith, div-add-mod' w 256)
+      p1 : 0 < b
+      p1 = omega arith
 
--- the eight bytes of w
-pub spelt : (w : ℕ) → w < 2 ^ 64
-    → w ≡ word (w % 256) (w / 256 % 256) (w / 256 / 256 % 256) (w / 256 / 256 / 256 % 256) (w / 256 / 256 / 256 / 256 % 256) (w / 256 / 256 / 256 / 256 / 256 % 256)
-    (w / 256 / 256 / 256 / 256 / 256 / 256 % 256) (w / 256 / 256 / 256 / 256 / 256 / 256 / 256 % 256)
-spelt w h =
-    let z = less _ 1 (less _ (2 ^ 8) (less _ (2 ^ 16) (less _ (2 ^ 24) (less _ (2 ^ 32) (less _ (2 ^ 40) (less _ (2 ^ 48) (less w (2 ^ 56) h))))))) in
-    cut8 w (w / 256) (w / 256 / 256) (w / 256 / 256 / 256) (w / 256 / 256 / 256 / 256) (w / 256 / 256 / 256 / 256 / 256) (w / 256 / 256 / 256 / 256 / 256 / 256)
-    (w / 256 / 256 / 256 / 256 / 256 / 256 / 256) (w / 256 / 256 / 256 / 256 / 256 / 256 / 256 / 256) _ _ _ _ _ _ _ _
-    (div-add-mod' w 256) (div-add-mod' (w / 256) 256) (div-add-mod' (w / 256 / 256) 256) (div-add-mod' (w / 256 / 256 / 256) 256) (div-add-mod' (w / 256 / 256 / 256 / 256) 256) (div-add-mod' (w / 256 / 256 / 256 / 256 / 256) 256)
-    (div-add-mod' (w / 256 / 256 / 256 / 256 / 256 / 256) 256) (div-add-mod' (w / 256 / 256 / 256 / 256 / 256 / 256 / 256) 256) (lt-one z)
+      first : (inTwos ≡ word (2 ^ 16) twos) × (w * b + w / 2 ^ 8 < 2 ^ 64)
+      first = gather 8 b p1 h2 4 (bytesOf 8 w) (sym (word-bytes 8 w fits)) (length-bytesOf 8 w) d
 
-pub pairs-of : (w : ℕ) → w < 2 ^ 64 → Below 10 (bytesOf 8 w) → Paired w
-unfolding Below bytesOf value valueFrom
-pairs-of w h d =
-    paired _ _ _ _ _ _ _ _ (d .0) (d .1 .0) (d .1 .1 .0) (d .1 .1 .1 .0) (d .1 .1 .1 .1 .0) (d .1 .1 .1 .1 .1 .0) (d .1 .1 .1 .1 .1 .1 .0) (d .1 .1 .1 .1 .1 .1 .1 .0) w (spelt w h) refl
+      second : (inFours ≡ word (2 ^ 32) fours) × (inTwos * (b * b) + inTwos / 2 ^ 16 < 2 ^ 64)
+      second = gather 16 (b * b) (mul-pos p1 p1) h4 2 twos (first .0) n2 (below-paired b (bytesOf 8 w) d)
 
--- then two numbers below 10000
-module _ (e0 e2 e4 e6 : ℕ) (h0 : e0 < 100) (h2 : e2 < 100) (h4 : e4 < 100) (h6 : e6 < 100) where
-  second-step : bitAnd (pairs e0 e2 e4 e6 * 100 + pairs e0 e2 e4 e6 / 65536) 0x0000_ffff_0000_ffff ≡ (e4 * 100 + e6) * 4294967296 + (e0 * 100 + e2)
-  second-step =
-      let n : pairs e0 e2 e4 e6 / 65536 ≡ (e6 * 65536 + e4) * 65536 + e2 = div-is ((e6 * 65536 + e4) * 65536 + e2) e0 65536 refl (omega arith) in
-      let e : pairs e0 e2 e4 e6 * 100 + pairs e0 e2 e4 e6 / 65536
-      ≡ ((e6 * 100) * 65536 + (e4 * 100 + e6)) * 4294967296 + ((e2 * 100 + e4) * 65536 + (e0 * 100 + e2)) =
-      rw n (omega arith) in
-      ap (λ (x : ℕ). bitAnd x 0x0000_ffff_0000_ffff) e
-      ∙ and-block 32 ((e6 * 100) * 65536 + (e4 * 100 + e6)) 65535 ((e2 * 100 + e4) * 65536 + (e0 * 100 + e2)) 65535 (omega arith) (lit< tt)
-      ∙ ap₂ (λ (x y : ℕ). x * 4294967296 + y)
-      (and-mask ((e6 * 100) * 65536 + (e4 * 100 + e6)) 16 ∙ mod-is (e6 * 100) (e4 * 100 + e6) 65536 refl (omega arith))
-      (and-mask ((e2 * 100 + e4) * 65536 + (e0 * 100 + e2)) 16 ∙ mod-is (e2 * 100 + e4) (e0 * 100 + e2) 65536 refl (omega arith))
+      third : inAll ≡ value (b * b * (b * b)) fours
+      third = ends (2 ^ 32) (b * b * (b * b)) fours (second .0) n4 (below-paired (b * b) twos (below-paired b (bytesOf 8 w) d)) (le-trans h4 (lit≤ tt))
 
-in-word : (w : ℕ) → w ≤ 0x0909_0909_0909_0909 → w + zeros 8 < 2 ^ 64
-unfolding zeros
-in-word w h = omega arith
-
--- what the code's last steps read off
-module _ {w p : ℕ} (P : Paired w) (ep : p ≡ bitAnd (w * 10 + w / 256) 0x00ff_00ff_00ff_00ff) where
-  p-is : p ≡ pairs (P .e0) (P .e2) (P .e4) (P .e6)
-  p-is = ep ∙ P .first
-
-  pub p-small : p * 100 + p / 65536 < 2 ^ 64
-  p-small = rw p-is (omega (arith, P .h0, P .h2, P .h4, P .h6))
-
-  module _ {q : ℕ} (eq : q ≡ bitAnd (p * 100 + p / 65536) 0x0000_ffff_0000_ffff) where
-    q-is : q ≡ (P .e4 * 100 + P .e6) * 4294967296 + (P .e0 * 100 + P .e2)
-    q-is = eq ∙ ap (λ (x : ℕ). bitAnd (x * 100 + x / 65536) 0x0000_ffff_0000_ffff) p-is ∙ second-step (P .e0) (P .e2) (P .e4) (P .e6) (P .h0) (P .h2) (P .h4) (P .h6)
-
-    q-low : q % 4294967296 ≡ P .e0 * 100 + P .e2
-    q-low = mod-is (P .e4 * 100 + P .e6) (P .e0 * 100 + P .e2) 4294967296 q-is (omega (arith, P .h0, P .h2))
-
-    q-high : q / 4294967296 ≡ P .e4 * 100 + P .e6
-    q-high = div-is (P .e4 * 100 + P .e6) (P .e0 * 100 + P .e2) 4294967296 q-is (omega (arith, P .h0, P .h2))
-
-    pub number-is : (q % 4294967296 * 10000 + q / 4294967296 ≡ value 10 (bytesOf 8 w)) × (q % 4294967296 * 10000 + q / 4294967296 < 100000000)
-    number-is = (rw (q-low, q-high) (sym (P .stands)), rw (q-low, q-high) (omega (arith, P .h0, P .h2, P .h4, P .h6)))
+      is : inAll ≡ value b (bytesOf 8 w)
+      is = third ∙ value-paired (b * b) 2 0 twos n2 ∙ value-paired b 4 0 (bytesOf 8 w) (length-bytesOf 8 w)
 
 -- the text of a word of digits
-pub text-of : (u w : ℕ) → w < 2 ^ 64 → (w + zeros 8) % 2 ^ 64 ≡ u → Below 10 (bytesOf 8 w) → bytesOf 8 u ≡ map ascii (bytesOf 8 w)
-text-of u w h e d = ap (bytesOf 8) (sym e ∙ mod-eq-of-lt (in-word w (pairs-of w h d .small))) ∙ figured 8 w d
+pub text-of : (u w : ℕ) → w < 2 ^ 64 → (w + 0x3030_3030_3030_3030) % 2 ^ 64 ≡ u → Below 10 (bytesOf 8 w) → bytesOf 8 u ≡ map ascii (bytesOf 8 w)
+unfolding word
+text-of u w h e d = ap (bytesOf 8) (sym e ∙ mod-eq-of-lt (in-word w (bytes-most 8 w 9 h d))) ∙ bytes-more 8 w 10 h d 48 (lit≤ tt)
+  where
+    in-word : (w : ℕ) → w ≤ 0x0909_0909_0909_0909 → w + 0x3030_3030_3030_3030 < 2 ^ 64
+    in-word w h = omega arith

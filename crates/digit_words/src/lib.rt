@@ -1,7 +1,7 @@
-// Eight decimal digits at a time in a word, the first in the lowest byte: whether a word of bytes is one of digits, and the number that they stand for.
+// Eight digits at a time in a word, the first in the lowest byte: whether a word of bytes is one of decimal digits, and the number that eight digits of any base up to 16 stand for.
 ghost use mathlib.Core.Path.{_≡_};
 ghost use mathlib.Core.List.{_++_, map};
-ghost use Prim.Native.Nat.{_-_, _≤_, _<_};
+ghost use Prim.Native.Nat.{_-_, _^_, _≤_, _<_};
 ghost use lib.ListN.{take, drop};
 ghost use Rattle.digits.specs.Digits.{value, Below};
 ghost use Rattle.digits.specs.Text.{ascii};
@@ -26,13 +26,14 @@ pub fn faults(w: u64) -> u64
 }
 
 // The number of eight digits: in pairs, in fours, and all.
-pub fn number(w: u64) -> u64
-    requires { ⌜ Below 10 (bytesOf 8 w) ⌝ }
-    ensures { λ r. ⌜ (r ≡ value 10 (bytesOf 8 w)) × (r < 100000000) ⌝ }
+pub fn number(base: u64, w: u64) -> u64
+    requires { ⌜ (2 ≤ base) × (base ≤ 16) × (Below base (bytesOf 8 w)) ⌝ }
+    ensures { λ r. ⌜ (r ≡ value base (bytesOf 8 w)) × (r < base ^ 8) ⌝ }
 {
-    let p = (w * 10 + (w >> 8)) & 0x00ff_00ff_00ff_00ff;
-    let q = (p * 100 + (p >> 16)) & 0x0000_ffff_0000_ffff;
-    (q % 4294967296) * 10000 + (q >> 32)
+    let square = base * base;
+    let p = (w * base + (w >> 8)) & 0x00ff_00ff_00ff_00ff;
+    let q = (p * square + (p >> 16)) & 0x0000_ffff_0000_ffff;
+    (q % 4294967296) * (square * square) + (q >> 32)
 }
 
 // The number of the first digits, without the last k.
@@ -40,7 +41,7 @@ pub fn number_before(w: u64, k: usize) -> u64
     requires { ⌜ (Below 10 (bytesOf 8 w)) × (k < 8) ⌝ }
     ensures { λ r. ⌜ (r ≡ value 10 (take (8 - k) (bytesOf 8 w))) × (r < 100000000) ⌝ }
 {
-    number(w << (k * 8))
+    number(10, w << (k * 8))
 }
 
 // The number of the first four digits without the last k of them, and the second four behind.
@@ -48,5 +49,5 @@ pub fn number_around(w: u64, k: usize) -> u64
     requires { ⌜ (Below 10 (bytesOf 8 w)) × (k ≤ 4) ⌝ }
     ensures { λ r. ⌜ r ≡ value 10 (take (4 - k) (bytesOf 8 w) ++ drop 4 (bytesOf 8 w)) ⌝ }
 {
-    number((w << (k * 8)) % 4294967296 + (w >> 32) * 4294967296)
+    number(10, (w << (k * 8)) % 4294967296 + (w >> 32) * 4294967296)
 }

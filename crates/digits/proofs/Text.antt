@@ -4,12 +4,18 @@ use mathlib.Core.Path.{_≡_, refl, ap, _∙_}
 use mathlib.Core.List.{List, [], _∷_, _++_, map, map-append}
 use Prim.Native.Nat.{ℕ, zero, suc, _+_, _*_, _/_, _%_, _^_, _≤_, _<_}
 use lib.Dec.{leb, ltb}
-use lib.ListN.{length, replicate, length-append, length-map}
+use lib.ListN.{length, drop, replicate, length-append, length-map}
 use Rattle.digits.specs.Digits.{digits, last}
 use Rattle.digits.specs.Text.{text, lastText}
 use Rattle.digits.proofs.Digits.{digits-step, digits-small, digits-some, digits-length, digits-length-le}
 use Rattle.digits.proofs.Last.{digits-last, digits-split, last-mod, last-split, last-zeros, length-last}
 use Rattle.digits.proofs.Length.{digits-fit, length-mono}
+
+-- the text of digits without the first
+pub map-drop : (f : ℕ → ℕ) (j : ℕ) (l : List ℕ) → map f (drop j l) ≡ drop j (map f l)
+map-drop f zero l = refl
+map-drop f (suc j) [] = refl
+map-drop f (suc j) (x ∷ l) = map-drop f j l
 
 pub length-lastText : (α : ℕ → ℕ) (b k n : ℕ) → length (lastText α b k n) ≡ k
 unfolding lastText

@@ -1,8 +1,8 @@
 // The numbers of the C edge: an answer as two words, a precision that may be given, and a text read into an answer.
 ghost use mathlib.Core.Path.{_≡_};
 ghost use Rattle.edge.specs.Edge.{precisionFrom, Reads};
-use scaling::Precision;
 use kinds::Kind;
+use scaling::Precision;
 
 // Document 01's number of the answer, and what it returns.
 #[repr(C)]

@@ -1,13 +1,20 @@
 -- Numbers that stand side by side in a word: what a product, a shift and a mask do to each.
 -- Assumes nothing.
-use mathlib.Core.Path.{_≡_, refl, ap, ap₂, _∙_}
+use mathlib.Core.List.{List, map, map-id, map-map}
+use mathlib.Core.Path.{_≡_, refl, sym, ap, _∙_}
 use Prim.Native.Nat.{ℕ, _+_, _*_, _-_, _/_, _%_, _^_, _<_, _≤_}
-use native.Mathlib.Nat.{div-add-mod', mod-eq-of-lt, div-div-eq-div-mul, zero-add}
+use native.Mathlib.Nat.{div-add-mod', mod-eq-of-lt, mul-pos, div-div-eq-div-mul}
 use native.Mathlib.Omega.{arith}
 use lib.Arith.{digits-div, digits-mod}
+use lib.Bits.{bitAnd}
 use lib.Dec.{lit<}
+use lib.ListN.{length, replicate, length-map}
+use lib.Pow.{pow-pos}
+use Rattle.digits.specs.Digits.{Below}
+use Rattle.lanes.specs.Lanes.{word}
+use Rattle.lanes.proofs.Lanes.{field, word-sum, word-times}
+use Rattle.lanes.proofs.Letters.{map-same, below-map}
 use Rattle.eights.specs.Steps.{pairsOf, tensOf}
-use lib.Bits.{bitAnd, and-block, and-mask, and-zero-r}
 
 -- the digits of a number of four in a word
 unfoldable pub fourOf : ℕ → ℕ
@@ -19,22 +26,37 @@ div-is q r m e h = ap (λ (x : ℕ). x / m) e ∙ digits-div q h
 pub mod-is : {x : ℕ} (q r m : ℕ) → x ≡ q * m + r → r < m → x % m ≡ r
 mod-is q r m e h = ap (λ (x : ℕ). x % m) e ∙ digits-mod q h
 
--- the mask of a nibble in each of two halves of 16 bits
-pub mask2 : (h l : ℕ) → l < 65536 → bitAnd (h * 65536 + l) 0x000f_000f ≡ h % 16 * 65536 + l % 16
-mask2 h l p = and-block 16 h 15 l 15 p (lit< tt) ∙ ap₂ (λ (x y : ℕ). x * 65536 + y) (and-mask h 4) (and-mask l 4)
+-- Each number d of a word's lanes, of twice w bits, below the limit: a product by m and a shift by s have d / c lowest, j bits of it.
+-- With the mask of those, d shifted by w less c * 2 ^ w - 1 times d / c has d / c and above it d % c.
+module _ (w c m s j a limit : ℕ) (some : 0 < c) (inside : (d : ℕ) → d < limit → d * m < 2 ^ (a + j + s)) (quotient : (d : ℕ) → d < limit → d * m / 2 ^ s % 2 ^ j ≡ d / c) where
+  abbrev b : ℕ
+  b = 2 ^ (a + j + s)
 
--- the tenths of two numbers as the shift leaves them, b above and a below, and what the mask keeps
-kept : (a b s : ℕ) → a < 10 → b < 10 → s < 10 → bitAnd (b * 65536 + ((b * 6 + s * 103) * 64 + a)) 0x000f_000f ≡ b * 65536 + a
-kept a b s ha hb hs =
-    mask2 b ((b * 6 + s * 103) * 64 + a) (omega arith)
-    ∙ ap₂ (λ (x y : ℕ). x * 65536 + y) (mod-eq-of-lt (omega arith)) (mod-is ((b * 6 + s * 103) * 4) a 16 (omega arith) (omega arith))
+  -- one number
+  one : (d : ℕ) → d * 2 ^ w ≡ d % c * 2 ^ w + d / c + d / c * (c * 2 ^ w - 1)
+  one d =
+      let n : c * 2 ^ w ≡ c * 2 ^ w - 1 + 1 = omega (arith, mul-pos some (pow-pos w)) in
+      let e : d / c * (c * 2 ^ w) ≡ d / c * (c * 2 ^ w - 1 + 1) = ap (λ (z : ℕ). d / c * z) n in
+      let f : (d / c * c + d % c) * 2 ^ w ≡ d * 2 ^ w = ap (λ (z : ℕ). z * 2 ^ w) (div-add-mod' d c) in
+      omega arith
 
--- the tenths of two numbers, of which each is given by its digits
-pub tenths : (a r b s : ℕ) → a < 10 → r < 10 → b < 10 → s < 10 → bitAnd (((b * 10 + s) * 65536 + (a * 10 + r)) * 103 / 1024) 0x000f_000f ≡ b * 65536 + a
-tenths a r b s ha hr hb hs =
-    let e : ((b * 10 + s) * 65536 + (a * 10 + r)) * 103 / 1024 ≡ b * 65536 + ((b * 6 + s * 103) * 64 + a) =
-    div-is (b * 65536 + ((b * 6 + s * 103) * 64 + a)) (a * 6 + r * 103) 1024 (omega arith) (omega arith) in
-    ap (λ (x : ℕ). bitAnd x 0x000f_000f) e ∙ kept a b s ha hb hs
+  quotients : (ds : List ℕ) → Below limit ds → bitAnd (word b ds * m / 2 ^ s) (word b (replicate (length ds) (2 ^ j - 1))) ≡ word b (map (λ (d : ℕ). d / c) ds)
+  quotients ds h =
+      let times : ℕ → ℕ = λ (d : ℕ). d * m in
+      let p : word b ds * m ≡ word b (map times ds) = ap (λ (l : List ℕ). word b l * m) (sym (map-id ds)) ∙ word-times b (λ (d : ℕ). d) m ds in
+      ap (λ (x : ℕ). bitAnd (x / 2 ^ s) (word b (replicate (length ds) (2 ^ j - 1)))) p
+      ∙ rw (length-map, map-map) at (field a j s (map times ds) (below-map limit b times inside ds h))
+      ∙ ap (word b) (map-same (λ (d : ℕ). d * m / 2 ^ s % 2 ^ j) (λ (d : ℕ). d / c) limit quotient ds h)
+
+  pub parted : {y : ℕ} (ds : List ℕ) → y ≡ word b ds → Below limit ds →
+      y * 2 ^ w ≡ word b (map (λ (d : ℕ). d % c * 2 ^ w + d / c) ds) + bitAnd (y * m / 2 ^ s) (word b (replicate (length ds) (2 ^ j - 1))) * (c * 2 ^ w - 1)
+  parted ds e h =
+      let n = c * 2 ^ w - 1 in
+      let left : ℕ → ℕ = λ (d : ℕ). d % c * 2 ^ w + d / c in
+      rw (e, quotients ds h)
+      (ap (λ (l : List ℕ). word b l * 2 ^ w) (sym (map-id ds)) ∙ word-times b (λ (d : ℕ). d) (2 ^ w) ds
+      ∙ ap (word b) (map-same (λ (d : ℕ). d * 2 ^ w) (λ (d : ℕ). left d + d / c * n) limit (λ d l. one d) ds h)
+      ∙ sym (word-sum b left (λ (d : ℕ). d / c * n) ds) ∙ ap (λ (x : ℕ). word b (map left ds) + x) (sym (word-times b (λ (d : ℕ). d / c) n ds)))
 
 -- n's two pairs side by side
 pub paired : (n : ℕ) → n < 10000 → n * 2 ^ 16 % 2 ^ 32 - n / 100 * 6553599 ≡ pairsOf n
@@ -50,46 +72,11 @@ tens-of n = omega arith
 units-of : (n : ℕ) → n % 100 % 10 ≡ n % 10
 units-of n = omega arith
 
--- the mask of seven bits in each of two halves of 32
-pub mask32 : (h l : ℕ) → l < 4294967296 → bitAnd (h * 4294967296 + l) 0x7f_0000_007f ≡ h % 128 * 4294967296 + l % 128
-mask32 h l p = and-block 32 h 127 l 127 p (lit< tt) ∙ ap₂ (λ (x y : ℕ). x * 4294967296 + y) (and-mask h 7) (and-mask l 7)
-
--- the hundredths of two numbers, of which each is given by its pairs
-pub hundredths : (a r b s : ℕ) → a < 100 → r < 100 → b < 100 → s < 100 → bitAnd (((b * 100 + s) * 4294967296 + (a * 100 + r)) * 10486 / 1048576) 0x7f_0000_007f ≡ b * 4294967296 + a
-hundredths a r b s ha hr hb hs =
-    let e : ((b * 100 + s) * 4294967296 + (a * 100 + r)) * 10486 / 1048576 ≡ b * 4294967296 + ((b * 24 + s * 10486) * 4096 + a) =
-    div-is (b * 4294967296 + ((b * 24 + s * 10486) * 4096 + a)) (a * 24 + r * 10486) 1048576 (omega arith) (omega arith) in
-    ap (λ (x : ℕ). bitAnd x 0x7f_0000_007f) e
-    ∙ mask32 b ((b * 24 + s * 10486) * 4096 + a) (omega arith)
-    ∙ ap₂ (λ (x y : ℕ). x * 4294967296 + y) (mod-eq-of-lt (omega arith)) (mod-is ((b * 24 + s * 10486) * 32) a 128 (omega arith) (omega arith))
-
--- the tenths of four numbers: those of two, twice
-pub tenths4 : (a r b s a' r' b' s' : ℕ) → a < 10 → r < 10 → b < 10 → s < 10 → a' < 10 → r' < 10 → b' < 10 → s' < 10 →
-    bitAnd ((((b' * 10 + s') * 65536 + (a' * 10 + r')) * 4294967296 + ((b * 10 + s) * 65536 + (a * 10 + r))) * 103 / 1024) 0x000f_000f_000f_000f
-    ≡ (b' * 65536 + a') * 4294967296 + (b * 65536 + a)
-tenths4 a r b s a' r' b' s' ha hr hb hs ha' hr' hb' hs' =
-    let u = b * 65536 + ((b * 6 + s * 103) * 64 + a) in
-    let u' = b' * 65536 + ((b' * 6 + s' * 103) * 64 + a') in
-    let v = a' * 6 + r' * 103 in
-    let e : (((b' * 10 + s') * 65536 + (a' * 10 + r')) * 4294967296 + ((b * 10 + s) * 65536 + (a * 10 + r))) * 103 / 1024 ≡ u' * 4294967296 + (v * 4194304 + u) =
-    div-is (u' * 4294967296 + (v * 4194304 + u)) (a * 6 + r * 103) 1024 (omega arith) (omega arith) in
-    let low : bitAnd (v * 4194304 + u) 0x000f_000f ≡ b * 65536 + a =
-    and-block 22 v 0 u 0x000f_000f (omega arith) (lit< tt) ∙ ap₂ (λ (x y : ℕ). x * 4194304 + y) (and-zero-r v) (kept a b s ha hb hs) ∙ zero-add (b * 65536 + a) in
-    ap (λ (x : ℕ). bitAnd x 0x000f_000f_000f_000f) e
-    ∙ and-block 32 u' 0x000f_000f (v * 4194304 + u) 0x000f_000f (omega arith) (lit< tt)
-    ∙ ap₂ (λ (x y : ℕ). x * 4294967296 + y) (kept a' b' s' ha' hb' hs') low
-
 pub sub-is : {x : ℕ} (r t : ℕ) → x ≡ r + t → x - t ≡ r
 sub-is r t e = omega arith
 
 pub le-is : {x : ℕ} (r t : ℕ) → x ≡ r + t → t ≤ x
 le-is r t e = omega arith
-
--- 256 times four numbers side by side, by their digits
-pub whole : (a r b s a' r' b' s' : ℕ) →
-    (((b' * 10 + s') * 65536 + (a' * 10 + r')) * 4294967296 + ((b * 10 + s) * 65536 + (a * 10 + r))) * 256
-    ≡ ((a' + r' * 256 + b' * 65536 + s' * 16777216) * 4294967296 + (a + r * 256 + b * 65536 + s * 16777216)) + ((b' * 65536 + a') * 4294967296 + (b * 65536 + a)) * 2559
-whole a r b s a' r' b' s' = omega arith
 
 -- the pairs of a number of four digits
 pub pairs-low : (n : ℕ) → n < 10000 → pairsOf n % 65536 ≡ n / 100
@@ -111,10 +98,12 @@ pairs-four n h =
     let d : n / 100 / 10 ≡ n / 1000 = div-div-eq-div-mul n 100 10 in
     rw (pairs-low n h, pairs-high n h, d, tens-of n, units-of n)
 
--- two numbers that stand in halves of 16 bits, by the digits of each
-pub halved : (y : ℕ) → y ≡ (y / 65536 / 10 * 10 + y / 65536 % 10) * 65536 + (y % 65536 / 10 * 10 + y % 65536 % 10)
-halved y =
-    let d = div-add-mod' y 65536 in
-    let e = div-add-mod' (y / 65536) 10 in
-    let f = div-add-mod' (y % 65536) 10 in
-    omega arith
+-- ---- tens in lanes of 16 bits, and hundreds in lanes of 32
+
+pub tens : {y : ℕ} (ds : List ℕ) → y ≡ word 65536 ds → Below 100 ds →
+    y * 256 ≡ word 65536 (map (λ (d : ℕ). d % 10 * 256 + d / 10) ds) + bitAnd (y * 103 / 2 ^ 10) (word 65536 (replicate (length ds) 15)) * 2559
+tens = parted 8 10 103 10 4 2 100 (lit< tt) (λ d h. omega arith) (λ d h. ap (λ (x : ℕ). x % 16) (div-is (d / 10) (d / 10 * 6 + d % 10 * 103) 1024 (omega (arith, div-add-mod' d 10)) (omega arith)) ∙ mod-eq-of-lt (omega arith))
+
+pub hundreds : {y : ℕ} (ds : List ℕ) → y ≡ word 4294967296 ds → Below 10000 ds →
+    y * 65536 ≡ word 4294967296 (map (λ (d : ℕ). d % 100 * 65536 + d / 100) ds) + bitAnd (y * 10486 / 2 ^ 20) (word 4294967296 (replicate (length ds) 127)) * 6553599
+hundreds = parted 16 100 10486 20 7 5 10000 (lit< tt) (λ d h. omega arith) (λ d h. ap (λ (x : ℕ). x % 128) (div-is (d / 100) (d / 100 * 24 + d % 100 * 10486) 1048576 (omega (arith, div-add-mod' d 100)) (omega arith)) ∙ mod-eq-of-lt (omega arith))

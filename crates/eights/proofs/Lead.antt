@@ -1,7 +1,7 @@
 -- The last k digits of a number that has no more, without the zeros in front, are all its digits.
 -- Assumes nothing.
 use mathlib.Core.Path.{_≡_, refl, sym, ap, _∙_}
-use mathlib.Core.List.{List, [], _∷_, map}
+use mathlib.Core.List.{_∷_, map}
 use Prim.Native.Nat.{ℕ, zero, suc, _+_, _-_, _*_, _/_, _%_, _^_, _<_, _≤_}
 use native.Mathlib.Nat.{div-eq-of-lt, div-lt-iff-lt-mul, le-div-iff-mul-le, mod-eq-of-lt, one-le-pow, pow-succ', pow-zero}
 use native.Mathlib.Omega.{arith}
@@ -11,7 +11,7 @@ use Rattle.digits.specs.Digits.{bare, last}
 use Rattle.digits.specs.Text.{text, lastText}
 use Rattle.digits.proofs.Digits.{bare-zero, bare-length-gt, digits-pos}
 use Rattle.digits.proofs.Last.{bare-split}
-use Rattle.digits.proofs.Text.{length-lastText, text-some}
+use Rattle.digits.proofs.Text.{length-lastText, map-drop, text-some}
 use Rattle.words.specs.Bytes.{zerosFront}
 
 module _ (b : ℕ) (big : 1 < b) where
@@ -38,16 +38,11 @@ module _ (b : ℕ) (big : 1 < b) where
           let s : bare b n ≡ last b (suc k) n = bare-split b big (suc k) n (bare-length-gt b big k n l) ∙ rw (z, bare-zero b big) in
           ap (λ (x : ℕ). x ∷ last b k n) (sym e) ∙ sym s
 
-drop-map : (α : ℕ → ℕ) (z : ℕ) (l : List ℕ) → drop z (map α l) ≡ map α (drop z l)
-drop-map α zero l = refl
-drop-map α (suc z) [] = refl
-drop-map α (suc z) (x ∷ l) = drop-map α z l
-
 -- the same of the text, and of how many digits that leaves
 module _ (α : ℕ → ℕ) (b : ℕ) (big : 1 < b) (k n : ℕ) (p : 0 < n) (h : n < b ^ k) where
   pub text-front : drop (zerosFront (last b k n)) (lastText α b k n) ≡ text α b n
   unfolding text lastText
-  text-front = drop-map α (zerosFront (last b k n)) (last b k n) ∙ ap (map α) (bare-front b big k n h ∙ sym (digits-pos b big n p))
+  text-front = sym (map-drop α (zerosFront (last b k n)) (last b k n)) ∙ ap (map α) (bare-front b big k n h ∙ sym (digits-pos b big n p))
 
   pub front-length : zerosFront (last b k n) + length (text α b n) ≡ k
   front-length =

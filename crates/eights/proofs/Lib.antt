@@ -1,5 +1,4 @@
 -- Laws that belong to no one function.
 pub mod Lanes
 pub mod Bytes
-pub mod Text
 pub mod Lead

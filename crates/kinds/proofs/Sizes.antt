@@ -1,11 +1,11 @@
--- The greatest decimal length of a type, once over the bits.
+-- The greatest decimal length of a type, once over the bits; and which bits a type has.
 -- Assumes nothing.
-use mathlib.Core.Bool.{true, false}
+use mathlib.Core.Bool.{Bool, true, false}
 use mathlib.Core.Path.{_≡_, refl}
 use Prim.Native.Nat.{ℕ, suc, _-_, _^_, _≤_}
 use native.Mathlib.Omega.{arith}
-use borrow.Author.Tests.{ltb-true, lt-ltb, ne-eqb}
-use lib.Dec.{lit<}
+use borrow.Author.Tests.{eqb-true, ltb-true, lt-ltb, ne-eqb}
+use lib.Dec.{eqb, lit<}
 use lib.IntN.{ℤ, pos, negsuc}
 use lib.ListN.{length}
 use lib.Pow.{pow-pos}
@@ -44,8 +44,23 @@ greatest-signed b = record {
     never (pos n) t = omega (arith, longer {n = n} {m = suc (2 ^ (b - 1) - 1)} (omega (arith, ltb-true n (2 ^ (b - 1)) t)))
     never (negsuc k) t = omega (arith, longer {n = suc k} {m = suc (2 ^ (b - 1) - 1)} (omega (arith, ltb-true k (2 ^ (b - 1)) t)))
 
+-- a type has one: each of two is reached, and is not exceeded by the other
+pub one-answer : {sign : Bool} {b m n : ℕ} → Greatest sign b m → Greatest sign b n → m ≡ n
+one-answer p q = omega (arith, p .never (q .longest) (q .is-value), q .never (p .longest) (p .is-value), p .reached, q .reached)
+
 -- what is none of the bits of a type
 pub unknown : {X : Type 0} (b : ℕ) → (((Unit {0} × (b ≡ 8 → ⊥)) × (b ≡ 16 → ⊥)) × (b ≡ 32 → ⊥)) × (b ≡ 64 → ⊥) → known b ≡ true → X
 unknown b h t =
     let f : known b ≡ false = rw (ne-eqb b 8 (h .0 .0 .0 .1), ne-eqb b 16 (h .0 .0 .1), ne-eqb b 32 (h .0 .1), ne-eqb b 64 (h .1)) in
     absurd (let z : _≡_ {A = ℕ} 0 1 = cc in omega arith)
+
+-- a type has 1 to 64 bits
+pub known-range : (bits : ℕ) → known bits ≡ true → (1 ≤ bits) × (bits ≤ 64)
+known-range bits h = go (eqb bits 8) (eqb bits 16) (eqb bits 32) (eqb bits 64) refl refl refl refl
+  where
+    go : (a b c d : Bool) → eqb bits 8 ≡ a → eqb bits 16 ≡ b → eqb bits 32 ≡ c → eqb bits 64 ≡ d → (1 ≤ bits) × (bits ≤ 64)
+    go true b c d e f g i = (omega (arith, eqb-true bits 8 e), omega (arith, eqb-true bits 8 e))
+    go false true c d e f g i = (omega (arith, eqb-true bits 16 f), omega (arith, eqb-true bits 16 f))
+    go false false true d e f g i = (omega (arith, eqb-true bits 32 g), omega (arith, eqb-true bits 32 g))
+    go false false false true e f g i = (omega (arith, eqb-true bits 64 i), omega (arith, eqb-true bits 64 i))
+    go false false false false e f g i = absurd (let t : _≡_ {A = Bool} false true = rw (e, f, g, i) at h in let z : _≡_ {A = ℕ} 0 1 = cc in omega arith)

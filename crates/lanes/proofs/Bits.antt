@@ -1,20 +1,15 @@
 -- The binary digits of a byte by a product: n at seven places, nine bits apart, has in each lane of eight bits one more of its digits lowest.
 -- Assumes nothing.
-use mathlib.Core.Path.{_≡_, ap, _∙_}
+use mathlib.Core.Path.{_≡_}
 use mathlib.Core.List.{List, [], _∷_, map}
 use Prim.Native.Nat.{ℕ, _+_, _*_, _/_, _%_, _^_, _<_}
-use native.Mathlib.Nat.{add-comm, div-add-mod', div-one, mul-assoc, add-mul-mod-self-right}
+use native.Mathlib.Nat.{div-add-mod', div-one, mul-assoc, add-mul-mod-self-right}
 use native.Mathlib.Omega.{arith}
 use lib.Bits.{bitAnd, and-block, and-zero-r}
 use lib.Dec.{lit<}
-use lib.ListN.{replicate}
 use Rattle.digits.specs.Digits.{last, Below}
-use Rattle.digits.specs.Text.{ascii, lastText}
-use Rattle.digits.proofs.Last.{last-below}
 use Rattle.lanes.specs.Lanes.{word}
 use Rattle.lanes.proofs.Lanes.{masked}
-use Rattle.lanes.proofs.Letters.{each-more, map-same, text-bytes}
-use Rattle.words.specs.Bytes.{bytesOf}
 
 -- n at seven places, by its quotients and remainders by 2 to 64
 summed : (n a b c d e f a′ b′ c′ d′ e′ f′ : ℕ) →
@@ -56,10 +51,3 @@ module _ (n : ℕ) (h : n < 256) where
       let e : bitAnd (v * 256 + n % 64 * 4) 0x0101_0101_0101_0100 ≡ bitAnd v 0x0001_0101_0101_0101 * 256 + bitAnd (n % 64 * 4) 0 =
       and-block 8 v 0x0001_0101_0101_0101 (n % 64 * 4) 0 (omega arith) (lit< tt) in
       rw (product n, e, m, and-zero-r, ← lowest) (omega arith)
-
--- their text
-pub bits-text : (k n x : ℕ) → x ≡ word 256 (last 2 k n) → bytesOf k (x + word 256 (replicate k 48)) ≡ lastText ascii 2 k n
-unfolding lastText
-bits-text k n x e =
-    ap (bytesOf k) (each-more 2 k n x 48 e ∙ ap (word 256) (map-same _ ascii 2 (λ d h. add-comm d 48) (last 2 k n) (last-below 2 (lit< tt) k n)))
-    ∙ text-bytes ascii 2 k n (lit< tt) (λ d h. omega arith)

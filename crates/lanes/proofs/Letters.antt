@@ -1,23 +1,23 @@
--- Digits in the lanes of a word become their text, lane by lane, and the word's bytes are it. Over all naturals.
+-- Digits in the bytes of a word become their text, byte by byte. Over all naturals.
 -- Assumes nothing.
 use mathlib.Core.Bool.{Bool, true, false}
 use mathlib.Core.Path.{_≡_, refl, sym, ap, ap₂, _∙_}
 use mathlib.Core.List.{List, [], _∷_, map, map-id, map-map}
-use Prim.Native.Nat.{ℕ, suc, _+_, _*_, _-_, _/_, _%_, _^_, _≤_, _<_, suc-le-suc}
-use native.Mathlib.Nat.{mul-le-mul}
+use Prim.Native.Nat.{ℕ, zero, suc, _+_, _*_, _-_, _/_, _%_, _^_, _≤_, _<_}
+use native.Mathlib.Nat.{add-comm, div-add-mod', mul-le-mul, pow-suc}
 use native.Mathlib.Omega.{arith}
 use borrow.Author.Tests.{ltb-true, ltb-false}
 use lib.Arith.{digits-div, digits-mod}
 use lib.Bits.{bitAnd, and-le-r}
-use lib.Dec.{ltb, lit<}
+use lib.Dec.{ltb}
 use lib.ListN.{length, replicate, length-map}
 use Rattle.digits.specs.Digits.{last, Below}
-use Rattle.digits.specs.Text.{lastText}
 use Rattle.digits.proofs.Last.{length-last, last-below}
 use Rattle.lanes.specs.Lanes.{word}
 use Rattle.lanes.specs.Letters.{digitByte}
-use Rattle.lanes.proofs.Lanes.{field, word-sum, word-times, word-plus, word-most}
+use Rattle.lanes.proofs.Lanes.{below-more, field, word-sum, word-times, word-plus, word-most}
 use Rattle.words.specs.Bytes.{bytesOf}
+use Rattle.words.proofs.Bytes.{length-bytesOf}
 
 -- the bytes of a word of bytes
 bytes-word : (ds : List ℕ) → Below 256 ds → bytesOf (length ds) (word 256 ds) ≡ ds
@@ -33,27 +33,49 @@ module _ (α β : ℕ → ℕ) (b : ℕ) (same : (d : ℕ) → d < b → α d �
   map-same [] h = refl
   map-same (d ∷ ds) h = ap₂ (λ (x : ℕ) (l : List ℕ). x ∷ l) (same d (h .0)) (map-same ds (h .1))
 
-below-map : (b c : ℕ) (f : ℕ → ℕ) → ((d : ℕ) → d < b → f d < c) → (ds : List ℕ) → Below b ds → Below c (map f ds)
+pub below-map : (b c : ℕ) (f : ℕ → ℕ) → ((d : ℕ) → d < b → f d < c) → (ds : List ℕ) → Below b ds → Below c (map f ds)
 unfolding Below
 below-map b c f s [] h = tt
 below-map b c f s (d ∷ ds) h = (s d (h .0), below-map b c f s ds (h .1))
 
--- ---- digits of any base, one a lane
+-- ---- numbers one a lane, as bytes
 
-pub digits-most : (t : ℕ) → 0 < t → (k n x : ℕ) → x ≡ word 256 (last (suc t) k n) → x ≤ word 256 (replicate k t)
-digits-most t p k n x e = rw e (rw length-last at (word-most 256 t (last (suc t) k n) (last-below (suc t) (suc-le-suc p) k n)))
+-- a word from its bytes
+pub word-bytes : (k x : ℕ) → x < 256 ^ k → word 256 (bytesOf k x) ≡ x
+unfolding bytesOf word
+word-bytes zero x h = omega arith
+word-bytes (suc k) x h =
+    let p : 256 ^ suc k ≡ 256 ^ k * 256 = pow-suc 256 k in
+    let m : x / 256 * 256 + x % 256 ≡ x = div-add-mod' x 256 in
+    ap (λ (y : ℕ). y * 256 + x % 256) (word-bytes k (x / 256) (omega arith)) ∙ m
 
-pub each-more : (b k n x c : ℕ) → x ≡ word 256 (last b k n) → x + word 256 (replicate k c) ≡ word 256 (map (λ (d : ℕ). d + c) (last b k n))
-each-more b k n x c e =
-    let i : x ≡ word 256 (map (λ (d : ℕ). d) (last b k n)) = e ∙ ap (word 256) (sym (map-id (last b k n))) in
-    rw i (rw length-last at (word-plus 256 (λ (d : ℕ). d) c (last b k n)))
+-- digits in their lanes are the word's bytes
+pub bytes-last : (b k n : ℕ) {x : ℕ} → 1 < b → b ≤ 256 → x ≡ word 256 (last b k n) → bytesOf k x ≡ last b k n
+bytes-last b k n big small e = rw e (rw length-last at (bytes-word (last b k n) (below-more small (last b k n) (last-below b big k n))))
 
-pub text-bytes : (α : ℕ → ℕ) (b k n : ℕ) → 1 < b → ((d : ℕ) → d < b → α d < 256) → bytesOf k (word 256 (lastText α b k n)) ≡ lastText α b k n
-unfolding lastText
-text-bytes α b k n big small =
-    let t = map α (last b k n) in
-    let e : length t ≡ k = length-map (last b k n) α ∙ length-last b k n in
-    rw e at (bytes-word t (below-map b 256 α small (last b k n) (last-below b big k n)))
+pub below-last : (b k n : ℕ) {x : ℕ} → 1 < b → b ≤ 256 → x ≡ word 256 (last b k n) → Below b (bytesOf k x)
+below-last b k n big small e = rw (bytes-last b k n big small e) (last-below b big k n)
+
+-- k bytes, each below b
+module _ (k x b : ℕ) (fits : x < 256 ^ k) (h : Below b (bytesOf k x)) where
+  -- what one makes of each stays in its lane
+  mapped : (f : ℕ → ℕ) → ((d : ℕ) → d < b → f d < 256) → bytesOf k (word 256 (map f (bytesOf k x))) ≡ map f (bytesOf k x)
+  mapped f small =
+      let e : length (map f (bytesOf k x)) ≡ k = length-map (bytesOf k x) f ∙ length-bytesOf k x in
+      rw e at (bytes-word (map f (bytesOf k x)) (below-map b 256 f small (bytesOf k x) h))
+
+  -- c more in each
+  more : (c : ℕ) → x + word 256 (replicate k c) ≡ word 256 (map (λ (d : ℕ). d + c) (bytesOf k x))
+  more c =
+      let i : x ≡ word 256 (map (λ (d : ℕ). d) (bytesOf k x)) = sym (word-bytes k x fits) ∙ ap (word 256) (sym (map-id (bytesOf k x))) in
+      ap (λ (y : ℕ). y + word 256 (replicate k c)) i ∙ rw length-bytesOf at (word-plus 256 (λ (d : ℕ). d) c (bytesOf k x))
+
+  pub bytes-more : (c : ℕ) → c + b ≤ 256 → bytesOf k (x + word 256 (replicate k c)) ≡ map (λ (d : ℕ). c + d) (bytesOf k x)
+  bytes-more c room =
+      ap (bytesOf k) (more c ∙ ap (word 256) (map-same _ (λ (d : ℕ). c + d) b (λ d l. add-comm d c) (bytesOf k x) h)) ∙ mapped (λ (d : ℕ). c + d) (λ d l. omega arith)
+
+pub bytes-most : (k x t : ℕ) → x < 256 ^ k → Below (suc t) (bytesOf k x) → x ≤ word 256 (replicate k t)
+bytes-most k x t fits h = rw (word-bytes k x fits, length-bytesOf) at (word-most 256 t (bytesOf k x) h)
 
 -- ---- one hex digit
 
@@ -80,31 +102,24 @@ module _ (letter : ℕ) (low : 57 < letter) where
 
 -- ---- all hex digits
 
-module _ (k n : ℕ) where
-  digits-below : Below 16 (last 16 k n)
-  digits-below = last-below 16 (lit< tt) k n
-
+module _ (k x : ℕ) (fits : x < 256 ^ k) (h : Below 16 (bytesOf k x)) where
   -- the first digit beyond nine is the first that six more carry into the next bit
-  tens : bitAnd (word 256 (map (λ (d : ℕ). d + 6) (last 16 k n)) / 2 ^ 4) (word 256 (replicate k 1)) ≡ word 256 (map (λ (d : ℕ). (d + 6) / 2 ^ 4 % 2 ^ 1) (last 16 k n))
+  tens : bitAnd ((x + word 256 (replicate k 6)) / 2 ^ 4) (word 256 (replicate k 1)) ≡ word 256 (map (λ (d : ℕ). (d + 6) / 2 ^ 4 % 2 ^ 1) (bytesOf k x))
   tens =
       let six : ℕ → ℕ = λ (d : ℕ). d + 6 in
-      let h = below-map 16 256 six (λ d l. omega arith) (last 16 k n) digits-below in
-      let e : length (map six (last 16 k n)) ≡ k = length-map (last 16 k n) six ∙ length-last 16 k n in
-      rw (e, map-map) at (field 3 1 4 (map six (last 16 k n)) h)
+      let ds = bytesOf k x in
+      let e : length (map six ds) ≡ k = length-map ds six ∙ length-bytesOf k x in
+      ap (λ (y : ℕ). bitAnd (y / 2 ^ 4) (word 256 (replicate k 1))) (more k x 16 fits h 6)
+      ∙ rw (e, map-map) at (field 3 1 4 (map six ds) (below-map 16 256 six (λ d l. omega arith) ds h))
 
-  module _ (letter : ℕ) (low : 57 < letter) where
-    pub text-word : (x : ℕ) → x ≡ word 256 (last 16 k n) →
-        x + word 256 (replicate k 48) + bitAnd ((x + word 256 (replicate k 6)) / 2 ^ 4) (word 256 (replicate k 1)) * (letter - 58) ≡ word 256 (lastText (digitByte letter) 16 k n)
-    unfolding lastText
-    text-word x e =
-        let ds = last 16 k n in
-        rw (each-more 16 k n x 6 e, each-more 16 k n x 48 e, tens)
-        (ap (λ (y : ℕ). word 256 (map (λ (d : ℕ). d + 48) ds) + y) (word-times 256 (λ (d : ℕ). (d + 6) / 2 ^ 4 % 2 ^ 1) (letter - 58) ds)
-        ∙ word-sum 256 (λ (d : ℕ). d + 48) (λ (d : ℕ). (d + 6) / 2 ^ 4 % 2 ^ 1 * (letter - 58)) ds
-        ∙ ap (word 256) (map-same _ (digitByte letter) 16 (byte-is letter low) ds digits-below))
-
-    pub hex-bytes : letter ≤ 250 → bytesOf k (word 256 (lastText (digitByte letter) 16 k n)) ≡ lastText (digitByte letter) 16 k n
-    hex-bytes most = text-bytes (digitByte letter) 16 k n (lit< tt) (byte-below letter low most)
+  pub hex-bytes : (letter : ℕ) → 57 < letter → letter ≤ 250 →
+      bytesOf k (x + word 256 (replicate k 48) + bitAnd ((x + word 256 (replicate k 6)) / 2 ^ 4) (word 256 (replicate k 1)) * (letter - 58)) ≡ map (digitByte letter) (bytesOf k x)
+  hex-bytes letter low most =
+      let ds = bytesOf k x in
+      ap (bytesOf k)
+      (rw (more k x 16 fits h 48, tens, word-times 256 (λ (d : ℕ). (d + 6) / 2 ^ 4 % 2 ^ 1) (letter - 58) ds)
+      (word-sum 256 (λ (d : ℕ). d + 48) (λ (d : ℕ). (d + 6) / 2 ^ 4 % 2 ^ 1 * (letter - 58)) ds ∙ ap (word 256) (map-same _ (digitByte letter) 16 (byte-is letter low) ds h)))
+      ∙ mapped k x 16 fits h (digitByte letter) (byte-below letter low most)
 
 -- no lane runs over: m has a 1 in each
 

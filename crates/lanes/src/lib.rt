@@ -1,7 +1,8 @@
 // Hex and binary digits side by side in a word, one a byte, the first in the lowest: four or eight of them at once, and no loop.
+ghost use mathlib.Core.List.{map};
 ghost use mathlib.Core.Path.{_≡_};
 ghost use Prim.Native.Nat.{_<_, _≤_};
-ghost use Rattle.digits.specs.Digits.{last};
+ghost use Rattle.digits.specs.Digits.{last, Below};
 ghost use Rattle.digits.specs.Text.{ascii, lastText};
 ghost use Rattle.lanes.specs.Lanes.{word};
 ghost use Rattle.lanes.specs.Letters.{digitByte};
@@ -42,14 +43,21 @@ fn spread8(n: u64) -> u64
     ((bytes >> 4) & 0x000f_000f_000f_000f) + ((bytes & 0x000f_000f_000f_000f) << 8)
 }
 
-// The text of the four hex digits of n. Six more carry a digit from ten on into the next bit of its lane: there the step from `:` (58) to the letter is added.
+// The text of eight hex digits that lie one a byte. Six more carry a digit from ten on into the next bit of its lane: there the step from `:` (58) to the letter is added.
+pub fn spelled(letter: u64, x: u64) -> u64
+    requires { ⌜ (57 < letter) × (letter ≤ 250) × (Below 16 (bytesOf 8 x)) ⌝ }
+    ensures { λ r. ⌜ bytesOf 8 r ≡ map (digitByte letter) (bytesOf 8 x) ⌝ }
+{
+    let tens = ((x + 0x0606_0606_0606_0606) >> 4) & 0x0101_0101_0101_0101;
+    x + 0x3030_3030_3030_3030 + tens * (letter - 58)
+}
+
+// The text of the four hex digits of n: that of eight, of which four are zeros behind.
 pub fn four(letter: u32, n: u32) -> u32
     requires { ⌜ (57 < letter) × (letter ≤ 250) × (n < 65536) ⌝ }
     ensures { λ r. ⌜ bytesOf 4 r ≡ lastText (digitByte letter) 16 4 n ⌝ }
 {
-    let x = spread4(n);
-    let tens = ((x + 0x0606_0606) >> 4) & 0x0101_0101;
-    x + 0x3030_3030 + tens * (letter - 58)
+    (spelled(letter as u64, spread4(n) as u64) % 4294967296) as u32
 }
 
 // The text of the eight hex digits of n.
@@ -57,9 +65,7 @@ pub fn eight(letter: u64, n: u64) -> u64
     requires { ⌜ (57 < letter) × (letter ≤ 250) × (n < 4294967296) ⌝ }
     ensures { λ r. ⌜ bytesOf 8 r ≡ lastText (digitByte letter) 16 8 n ⌝ }
 {
-    let x = spread8(n);
-    let tens = ((x + 0x0606_0606_0606_0606) >> 4) & 0x0101_0101_0101_0101;
-    x + 0x3030_3030_3030_3030 + tens * (letter - 58)
+    spelled(letter, spread8(n))
 }
 
 // The byte of one hex digit.

@@ -8,7 +8,6 @@ ghost use Rattle.writing.specs.Promise.{answer, house};
 ghost use Rattle.edge.specs.Edge.{set, optionsFrom, Answers, Reads};
 use edge::Answer;
 use kinds::Kind;
-use scaling::Precision;
 use writing::Options;
 
 // The text of a value by type, format and options, at the start of out.

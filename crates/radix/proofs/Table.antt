@@ -1,7 +1,6 @@
 -- A table of the digits in order gives the alphabet's text, in any base that it has the digits of.
 -- Assumes nothing.
 use mathlib.Core.Path.{_≡_, sym, _∙_}
-use mathlib.Core.List.{map}
 use Prim.Native.Nat.{ℕ, _≤_, _<_}
 use native.Mathlib.Nat.{lt-of-lt-of-le}
 use lib.Dec.{lit<, lit≤}

@@ -1,18 +1,18 @@
 -- The promise of `read`: one outcome keeps it, reading the plain text of a value gives back the value, and the accepted texts are exactly the plain ones.
 -- Assumes nothing.
-use mathlib.Core.Bool.{Bool, true, false, false≢true, _||_}
+use mathlib.Core.Bool.{Bool, true, false, false≢true}
 use mathlib.Core.List.{List, []}
 use mathlib.Core.Path.{_≡_, refl, sym, ap, _∙_, subst}
 use Prim.Native.Nat.{ℕ, _≤_, _<_}
 use native.Mathlib.Decide.{decLe}
 use native.Mathlib.Nat.{lt-of-le-of-lt}
 use native.Mathlib.Omega.{arith}
-use borrow.Author.Tests.{eqb-true}
-use lib.Dec.{eqb, lit<, lit≤}
+use lib.Dec.{lit<, lit≤}
 use lib.IntN.{ℤ}
 use lib.ListN.{length}
 use lib.Pow.{pow-mono}
 use Rattle.kinds.specs.Kinds.{known, inType, pattern}
+use Rattle.kinds.proofs.Sizes.{known-range}
 use Rattle.reading.specs.Form.{Form}
 use Rattle.radix.specs.Radix.{digitByte, lower}
 use Rattle.reading.specs.Formats.{whole, radixForm, form, plain}
@@ -25,20 +25,6 @@ use Rattle.outcomes.specs.Outcomes.{numberOf, ofValue, ofPattern}
 use Rattle.outcomes.specs.declared.Outcome.{Outcome}
 use Rattle.outcomes.specs.declared.Outcome.the-variants as outcome
 use Rattle.reader.proofs.Answers.{decimal-held, radix-held}
-
--- a known type has 8 to 64 bits
-pub known-bits : (bits : ℕ) → known bits ≡ true → (1 ≤ bits) × (bits ≤ 64)
-known-bits bits e = go (eqb bits 8) (eqb bits 16) (eqb bits 32) (eqb bits 64) refl refl refl refl e
-  where
-    at : {n : ℕ} → bits ≡ n → 1 ≤ n → n ≤ 64 → (1 ≤ bits) × (bits ≤ 64)
-    at e p q = (omega arith, omega arith)
-
-    go : (a b c d : Bool) → eqb bits 8 ≡ a → eqb bits 16 ≡ b → eqb bits 32 ≡ c → eqb bits 64 ≡ d → (a || (b || (c || d))) ≡ true → (1 ≤ bits) × (bits ≤ 64)
-    go true b c d p q r s e = at (eqb-true bits 8 p) (omega arith) (omega arith)
-    go false true c d p q r s e = at (eqb-true bits 16 q) (omega arith) (omega arith)
-    go false false true d p q r s e = at (eqb-true bits 32 r) (omega arith) (omega arith)
-    go false false false true p q r s e = at (eqb-true bits 64 s) (omega arith) (omega arith)
-    go false false false false p q r s e = absurd (false≢true e)
 
 module _ (sgn : Bool) (bits code : ℕ) (t : List ℕ) where
   -- what passes the first three checks is answered by what is found of the text
@@ -58,7 +44,7 @@ at-code sgn bits t r k code e j = subst (λ (i : ℕ). Judges (form sgn bits i) 
 -- the value of a hex text
 pub hex-held : (sgn : Bool) (bits : ℕ) (t : List ℕ) (letter : ℕ) {v x : ℕ} → known bits ≡ true → 0 < length t → IsNumber false (digitByte letter) 16 t false v false → outcome.Done x ≡ ofPattern sgn bits v
     → (known bits ≡ true) × (0 < length t) × Judges (radixForm (digitByte letter) 16 bits) sgn bits t (outcome.Done x)
-hex-held sgn bits t letter k s N e = let b = known-bits bits k in (k, s, radix-held sgn bits t (b .0) (b .1) (digitByte letter) 16 N refl e)
+hex-held sgn bits t letter k s N e = let b = known-range bits k in (k, s, radix-held sgn bits t (b .0) (b .1) (digitByte letter) 16 N refl e)
 
 -- it is the answer to reading it: its letters are those of the code
 pub hex-answer : (sgn : Bool) (bits code : ℕ) (t : List ℕ) (letter : ℕ) {v : ℕ} → 3 ≤ code → code ≤ 4 → (code ≡ 3 → letter ≡ 97) → (code ≡ 4 → letter ≡ 65) → known bits ≡ true → 0 < length t
@@ -78,7 +64,7 @@ pub short-answer : (sgn : Bool) (bits : ℕ) (t : List ℕ) {m : Bool} {v x : �
     → Answers sgn bits 0 t (outcome.Done x)
 unfolding form
 short-answer sgn bits t {x = x} k s N e =
-    let b = known-bits bits k in
+    let b = known-range bits k in
     passed sgn bits 0 t (outcome.Done x) k (lit≤ tt) s (decimal-held sgn bits t (b .0) (b .1) N refl e)
 
 -- ---- one outcome keeps the promise
@@ -159,7 +145,7 @@ module _ (sgn : Bool) (bits code : ℕ) (t : List ℕ) where
 -- every format is faithful in a known type
 pub known-faithful : (sgn : Bool) (bits code : ℕ) → known bits ≡ true → Faithful (form sgn bits code) sgn bits (plain bits code)
 known-faithful sgn bits code e =
-    let k = known-bits bits e in
+    let k = known-range bits e in
     faithful sgn bits code (k .0) (lt-of-le-of-lt (pow-mono {i = bits} {j = 64} (k .1)) (lit< tt))
 
 module _ (sgn : Bool) (bits code : ℕ) (t : List ℕ) where

@@ -1,3 +1,2 @@
 -- Laws of texts of hex digits.
-pub mod Eights
 pub mod Splices

@@ -4,12 +4,13 @@ ghost use mathlib.Core.Bool.{true};
 ghost use mathlib.Core.Path.{_≡_};
 ghost use Prim.Native.Nat.{_+_, _*_, _-_, _/_, _%_, _^_, _≤_, _<_};
 ghost use lib.ListN.{length};
-ghost use Rattle.digits.specs.Digits.{value, Below};
 ghost use Rattle.digits.specs.Text.{text, lastText};
 ghost use Rattle.lanes.specs.Letters.{digitByte};
 ghost use Rattle.sixteen_digits.specs.Hex.{Digits};
 ghost use Rattle.words.specs.Bytes.{bytesOf};
 use digit_words::NONE;
+use digit_words::number;
+use lanes::spelled;
 use words::load4;
 use words::load8;
 
@@ -19,28 +20,14 @@ pub struct Number {
     pub value: u64,
 }
 
+const UNKNOWN: Number = Number {
+    known: false,
+    value: 0,
+};
+
 // What each byte stands for, if it is a digit: its lower half, and nine more for a letter. Nothing is promised: who asks compares.
 fn nibbles(u: u64) -> u64 {
     (u & 0x0f0f_0f0f_0f0f_0f0f) + ((u >> 6) & 0x0101_0101_0101_0101) * 9
-}
-
-// The text of eight digits, one a byte. Six more carry a digit from ten on into the next bit: there the step from `:` (58) to the letter is added.
-fn letters(w: u64, letter: u64) -> u64
-    requires { ⌜ (Below 16 (bytesOf 8 w)) × (57 < letter) × (letter ≤ 97) ⌝ }
-    ensures { λ r. ⌜ bytesOf 8 r ≡ lastText (digitByte letter) 16 8 (value 16 (bytesOf 8 w)) ⌝ }
-{
-    let tens = ((w + 0x0606_0606_0606_0606) >> 4) & 0x0101_0101_0101_0101;
-    w + 0x3030_3030_3030_3030 + tens * (letter - 58)
-}
-
-// The number of eight digits: in pairs, in fours, and all.
-fn gather(w: u64) -> u64
-    requires { ⌜ Below 16 (bytesOf 8 w) ⌝ }
-    ensures { λ r. ⌜ (r ≡ value 16 (bytesOf 8 w)) × (r < 4294967296) ⌝ }
-{
-    let p = (w * 16 + (w >> 8)) & 0x00ff_00ff_00ff_00ff;
-    let q = (p * 256 + (p >> 16)) & 0x0000_ffff_0000_ffff;
-    (q % 4294967296) * 65536 + (q >> 32)
 }
 
 // The number of eight bytes that are digits with these letters, or NONE. Digits whose text is the bytes are theirs.
@@ -52,10 +39,10 @@ fn eight(u: u64, letter: u64) -> u64
     if w & 0xf0f0_f0f0_f0f0_f0f0 != 0 {
         return NONE;
     }
-    if letters(w, letter) != u {
+    if spelled(letter, w) != u {
         return NONE;
     }
-    gather(w)
+    number(16, w)
 }
 
 fn wide(byte: u8) -> u64
@@ -83,10 +70,7 @@ fn up_to_three(s: &[u8], letter: u64) -> Number
         letter,
     );
     if v == NONE {
-        return Number {
-            known: false,
-            value: 0,
-        };
+        return UNKNOWN;
     }
     let w = v >> 20;
     Number {
@@ -103,10 +87,7 @@ fn up_to_seven(s: &[u8], letter: u64) -> Number
     let n = s.len();
     let v = eight(load4(s, 0) + load4(s, n - 4) * 4294967296, letter);
     if v == NONE {
-        return Number {
-            known: false,
-            value: 0,
-        };
+        return UNKNOWN;
     }
     Number {
         known: true,
@@ -123,16 +104,10 @@ fn up_to_sixteen(s: &[u8], letter: u64) -> Number
     let v = eight(load8(s, n - 8), letter);
     let w = eight(load8(s, 0), letter);
     if v == NONE {
-        return Number {
-            known: false,
-            value: 0,
-        };
+        return UNKNOWN;
     }
     if w == NONE {
-        return Number {
-            known: false,
-            value: 0,
-        };
+        return UNKNOWN;
     }
     Number {
         known: true,
@@ -150,10 +125,7 @@ fn number_in(s: &[u8], letter: u64) -> Number
         if n <= 16 {
             return up_to_sixteen(s, letter);
         }
-        return Number {
-            known: false,
-            value: 0,
-        };
+        return UNKNOWN;
     }
     if 4 <= n {
         return up_to_seven(s, letter);
@@ -168,10 +140,7 @@ pub fn number_of(s: &[u8], letter: u8) -> Number
 {
     if s[0] == 48 {
         if 1 < s.len() {
-            return Number {
-                known: false,
-                value: 0,
-            };
+            return UNKNOWN;
         }
     }
     number_in(s, letter as u64)

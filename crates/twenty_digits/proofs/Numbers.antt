@@ -12,6 +12,7 @@ use Rattle.digits.specs.Digits.{value, valueFrom, Below, Canonical}
 use Rattle.digits.specs.Text.{ascii, text, decimal}
 use Rattle.digits.proofs.Digits.{Below-append, valueFrom-append, unique}
 use Rattle.digits.proofs.Last.{valueFrom-is}
+use Rattle.digits.proofs.Text.{map-drop}
 use Rattle.words.specs.Bytes.{bytesOf}
 use Rattle.words.proofs.Bytes.{bytes-cons, bytes-join}
 use Rattle.digit_words.proofs.Shifts.{Below-take, value-zeros, low, around-below}
@@ -48,11 +49,6 @@ map-take : (f : ℕ → ℕ) (j : ℕ) (l : List ℕ) → map f (take j l) ≡ t
 map-take f zero l = refl
 map-take f (suc j) [] = refl
 map-take f (suc j) (x ∷ l) = ap (λ (m : List ℕ). f x ∷ m) (map-take f j l)
-
-map-drop : (f : ℕ → ℕ) (j : ℕ) (l : List ℕ) → map f (drop j l) ≡ drop j (map f l)
-map-drop f zero l = refl
-map-drop f (suc j) [] = refl
-map-drop f (suc j) (x ∷ l) = map-drop f j l
 
 -- the bytes of w are digits, and those of u their text
 pub record Figures (u w : ℕ) : Type 0 where

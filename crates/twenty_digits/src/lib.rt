@@ -85,7 +85,7 @@ fn eight(text: &[u8]) -> u64
     if w % 256 == 0 {
         return NONE;
     }
-    number(w)
+    number(10, w)
 }
 
 // 9 to 16 digits: the first eight bytes, of which some are left out, and the last eight.
@@ -102,7 +102,7 @@ fn up_to_sixteen(text: &[u8]) -> u64
     if x % 256 == 0 {
         return NONE;
     }
-    number_before(x, 16 - n) * 100000000 + number(w)
+    number_before(x, 16 - n) * 100000000 + number(10, w)
 }
 
 // 17 to 20 digits: eight bytes three times. From 1844 times 10 to the 16 on a number may be over 64 bits.
@@ -124,7 +124,7 @@ fn up_to_twenty(text: &[u8]) -> u64
     if 1843 < top {
         return NONE;
     }
-    top * 10000000000000000 + (number(m) * 100000000 + number(w))
+    top * 10000000000000000 + (number(10, m) * 100000000 + number(10, w))
 }
 
 // The number whose decimal text this is, or NONE.

@@ -7,8 +7,8 @@ ghost use lib.ListN.{length};
 ghost use Rattle.kinds.specs.Kinds.{known, inType, meaning};
 ghost use Rattle.writing.specs.Text.{framed, plain, textOf};
 ghost use Rattle.writing.specs.Promise.{Unframed, optionsKnown, answerOf, Writes, Places};
-use scaling::Precision;
 use kinds::Split;
+use scaling::Precision;
 use writing::Options;
 use writing::Written;
 

@@ -14,6 +14,12 @@ pub sets-append : (l : List ℕ) (i : ℕ) (xs ys : List ℕ) → sets l i (xs +
 sets-append l i [] ys = rw add-zero
 sets-append l i (x ∷ xs) ys = sets-append (set l i x) (suc i) xs ys ∙ rw (suc-add, add-suc)
 
+-- the bytes of a word in two runs, one behind the other
+pub sets-halves : (l : List ℕ) (at j k x : ℕ) → sets (sets l at (bytesOf j x)) (at + j) (bytesOf k (x / 2 ^ (j * 8))) ≡ sets l at (bytesOf (j + k) x)
+sets-halves l at j k x =
+    let hi = bytesOf k (x / 2 ^ (j * 8)) in
+    sym (ap (sets l at) (bytes-split j k x) ∙ sets-append l at (bytesOf j x) hi ∙ ap (λ (i : ℕ). sets (sets l at (bytesOf j x)) (at + i) hi) (length-bytesOf j x))
+
 -- a store in front of a run does not meet it
 set-past : (l : List ℕ) (i j x : ℕ) (ys : List ℕ) → i < j → set (sets l j ys) i x ≡ sets (set l i x) j ys
 set-past l i j x [] h = refl

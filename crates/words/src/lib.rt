@@ -7,19 +7,13 @@ ghost use lib.ListN.{length, take, drop};
 ghost use lib.Seq.{sets};
 ghost use Rattle.words.specs.Bytes.{bytesOf, zerosFront};
 
-// The eight bytes of x from the index at on.
-pub fn put8(x: u64, buf: &mut [u8], at: usize)
-    requires { ⌜ at + 8 ≤ length (now buf) ⌝ }
-    ensures { λ _. ⌜ now (buf .exit) ≡ sets (now (buf .entry)) at (bytesOf 8 x) ⌝ }
+// The two low bytes of x from the index at on.
+pub fn put2(x: u32, buf: &mut [u8], at: usize)
+    requires { ⌜ at + 2 ≤ length (now buf) ⌝ }
+    ensures { λ _. ⌜ now (buf .exit) ≡ sets (now (buf .entry)) at (bytesOf 2 x) ⌝ }
 {
     buf[at] = (x % 256) as u8;
     buf[at + 1] = ((x >> 8) % 256) as u8;
-    buf[at + 2] = ((x >> 16) % 256) as u8;
-    buf[at + 3] = ((x >> 24) % 256) as u8;
-    buf[at + 4] = ((x >> 32) % 256) as u8;
-    buf[at + 5] = ((x >> 40) % 256) as u8;
-    buf[at + 6] = ((x >> 48) % 256) as u8;
-    buf[at + 7] = ((x >> 56) % 256) as u8;
 }
 
 // The four bytes of x.
@@ -27,19 +21,17 @@ pub fn put4(x: u32, buf: &mut [u8], at: usize)
     requires { ⌜ at + 4 ≤ length (now buf) ⌝ }
     ensures { λ _. ⌜ now (buf .exit) ≡ sets (now (buf .entry)) at (bytesOf 4 x) ⌝ }
 {
-    buf[at] = (x % 256) as u8;
-    buf[at + 1] = ((x >> 8) % 256) as u8;
-    buf[at + 2] = ((x >> 16) % 256) as u8;
-    buf[at + 3] = ((x >> 24) % 256) as u8;
+    put2(x, buf, at);
+    put2(x >> 16, buf, at + 2);
 }
 
-// The two low bytes of x.
-pub fn put2(x: u32, buf: &mut [u8], at: usize)
-    requires { ⌜ at + 2 ≤ length (now buf) ⌝ }
-    ensures { λ _. ⌜ now (buf .exit) ≡ sets (now (buf .entry)) at (bytesOf 2 x) ⌝ }
+// The eight bytes of x.
+pub fn put8(x: u64, buf: &mut [u8], at: usize)
+    requires { ⌜ at + 8 ≤ length (now buf) ⌝ }
+    ensures { λ _. ⌜ now (buf .exit) ≡ sets (now (buf .entry)) at (bytesOf 8 x) ⌝ }
 {
-    buf[at] = (x % 256) as u8;
-    buf[at + 1] = ((x >> 8) % 256) as u8;
+    put4((x % 4294967296) as u32, buf, at);
+    put4((x >> 32) as u32, buf, at + 4);
 }
 
 // How many of the four bytes of x are 0 below the first that is not.

@@ -4,7 +4,6 @@ ghost use Rattle.kinds.specs.Kinds.{meaning};
 ghost use Rattle.writing.specs.Text.{textOf};
 ghost use Rattle.writing.specs.Promise.{house, answer, Writes};
 use kinds::Kind;
-use scaling::Precision;
 use writing::Options;
 use writing::Written;
 

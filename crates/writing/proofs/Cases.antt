@@ -6,18 +6,17 @@ use mathlib.Core.Option.{Option}
 use mathlib.Core.Path.{_≡_, refl, sym, ap, ap₂, _∙_}
 use Prim.Native.Nat.{ℕ, _+_, _-_, _≤_, _<_}
 use native.Mathlib.Omega.{arith}
-use lib.Dec.{eqb, leb}
-use borrow.Author.Tests.{eqb-true, ne-eqb, leb-true, le-leb, lt-leb}
+use lib.Dec.{leb}
+use borrow.Author.Tests.{ne-eqb, leb-true, le-leb, lt-leb}
 use lib.IntN.{ℤ, natAbs}
 use lib.ListN.{length}
 use Rattle.buffer.specs.AtEnd.{ended, begun}
 use Rattle.buffer.proofs.AtEnd.{ended-whole}
-use Rattle.digits.specs.Text.{decimal}
 use Rattle.kinds.specs.Kinds.{known, inType, meaning, negative, pattern, splitOf}
 use Rattle.kinds.specs.declared.Split.{Split}
+pub use Rattle.kinds.proofs.Sizes.{known-range}
 use Rattle.padding.specs.Padding.{signOf, prefixOf}
 use Rattle.padding.proofs.Padding.{plan-none, padded-is}
-use Rattle.radix.specs.Radix.{radix}
 use Rattle.scaling.specs.Coefficient.{precisionOf}
 use Rattle.scaling.specs.declared.Precision.{Precision}
 use Rattle.scaling.specs.declared.Precision.the-variants.{None}
@@ -134,17 +133,6 @@ house-known format h = simp (le-leb format 6 h)
 
 pub house-unknown : (format : ℕ) → 6 < format → optionsKnown format house ≡ false
 house-unknown format h = rw (lt-leb format 6 h)
-
--- a type has 1 to 64 bits
-pub known-range : (bits : ℕ) → known bits ≡ true → (1 ≤ bits) × (bits ≤ 64)
-known-range bits h = go (eqb bits 8) (eqb bits 16) (eqb bits 32) (eqb bits 64) refl refl refl refl
-  where
-    go : (a b c d : Bool) → eqb bits 8 ≡ a → eqb bits 16 ≡ b → eqb bits 32 ≡ c → eqb bits 64 ≡ d → (1 ≤ bits) × (bits ≤ 64)
-    go true b c d e f g i = (omega (arith, eqb-true bits 8 e), omega (arith, eqb-true bits 8 e))
-    go false true c d e f g i = (omega (arith, eqb-true bits 16 f), omega (arith, eqb-true bits 16 f))
-    go false false true d e f g i = (omega (arith, eqb-true bits 32 g), omega (arith, eqb-true bits 32 g))
-    go false false false true e f g i = (omega (arith, eqb-true bits 64 i), omega (arith, eqb-true bits 64 i))
-    go false false false false e f g i = absurd (let t : _≡_ {A = Bool} false true = rw (e, f, g, i) at h in let z : _≡_ {A = ℕ} 0 1 = cc in omega arith)
 
 -- ---- the answer to an exponent form
 

@@ -1,7 +1,7 @@
 -- `classes::end16` meets its contract: eight digits without the zeros in front, and the last eight. Assumes nothing.
 use mathlib.Core.Path.{ap₂, _∙_}
 use mathlib.Core.List.{List, _++_}
-use Prim.Native.Nat.{ℕ, _+_, _-_, _/_, _%_, _<_}
+use Prim.Native.Nat.{ℕ, _+_, _/_, _%_, _<_}
 use native.Mathlib.Omega.{arith}
 use Rattle.digits.specs.Text.{ascii, decimal}
 use Rattle.digits.proofs.Text.{text-longer, text-some}

@@ -1,5 +1,4 @@
 -- `classes::end8` meets its contract: eight digits without the zeros in front. Assumes nothing.
-use Prim.Native.Nat.{_-_}
 use native.Mathlib.Omega.{arith}
 use Rattle.digits.specs.Text.{decimal}
 use Rattle.classes.proofs.Heads.{each-digit, head-length, head-text, stands, longer}

@@ -1,5 +1,6 @@
 -- `digit_words::number_around` meets its contract. Assumes nothing.
 use mathlib.Core.Path.{_∙_}
+use lib.Dec.{lit≤}
 use Rattle.digit_words.proofs.Shifts.{padded-below, padded-value, around, around-below}
 use borrow.Author.Needs.{needs}
 use Rattle.digit_words.proofs.number_around.Statement.{statement}
@@ -18,7 +19,7 @@ add-number : tie.Need-add-number
 add-number c = search needs
 
 number-requires : tie.Need-number-requires
-number-requires c κs = padded-below _ (c .args .k) _ (around (c .args .w) (c .args .k) (c .pre .1)) (around-below (c .args .w) (c .args .k) (c .pre .0))
+number-requires c κs = (lit≤ tt, lit≤ tt, padded-below _ (c .args .k) _ (around (c .args .w) (c .args .k) (c .pre .1)) (around-below (c .args .w) (c .args .k) (c .pre .0)))
 
 returns : tie.Need-returns
 returns c = c .number .ensures .0 ∙ padded-value _ (c .before .args .k) _ (around (c .before .args .w) (c .before .args .k) (c .before .pre .1))

@@ -1,6 +1,7 @@
 -- `digit_words::number_before` meets its contract. Assumes nothing.
 use mathlib.Core.Path.{_∙_}
 use Prim.Native.Nat.{_-_}
+use lib.Dec.{lit≤}
 use Rattle.words.specs.Bytes.{bytesOf}
 use Rattle.digit_words.proofs.Shifts.{Below-take, padded-below, padded-value, before}
 use borrow.Author.Needs.{needs}
@@ -14,7 +15,7 @@ shl-number : tie.Need-shl-number
 shl-number c = search needs
 
 number-requires : tie.Need-number-requires
-number-requires c κs = padded-below _ (c .args .k) _ (before (c .args .w) (c .args .k) (c .pre .1)) (Below-take 10 (8 - c .args .k) (bytesOf 8 (c .args .w)) (c .pre .0))
+number-requires c κs = (lit≤ tt, lit≤ tt, padded-below _ (c .args .k) _ (before (c .args .w) (c .args .k) (c .pre .1)) (Below-take 10 (8 - c .args .k) (bytesOf 8 (c .args .w)) (c .pre .0)))
 
 returns : tie.Need-returns
 returns c = (c .number .ensures .0 ∙ padded-value _ (c .before .args .k) _ (before (c .before .args .w) (c .before .args .k) (c .before .pre .1)), c .number .ensures .1)

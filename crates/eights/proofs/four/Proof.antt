@@ -1,6 +1,5 @@
 -- `eights::four` meets its contract: two pairs, and the digits of each. Assumes nothing.
 use mathlib.Core.Path.{ap, _∙_}
-use Prim.Native.Nat.{_-_}
 use native.Mathlib.Omega.{arith}
 use Rattle.eights.proofs.Lanes.{paired, pairs-low, pairs-high, pairs-four}
 use Rattle.eights.specs.Steps.{tensOf}

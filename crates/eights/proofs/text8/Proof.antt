@@ -1,17 +1,18 @@
 -- `eights::text8` meets its contract. Assumes nothing.
 use native.Mathlib.Omega.{arith}
 use lib.Dec.{lit≤}
-use Rattle.eights.proofs.Text.{same, bytes-add, same-most}
+use Rattle.lanes.specs.Lanes.{word}
+use Rattle.lanes.proofs.Letters.{bytes-more, bytes-most}
 use Rattle.eights.proofs.text8.Statement.{statement}
 use Rattle.eights.proofs.text8.Tie as tie
 
 add-result : tie.Need-add-result
-unfolding same
-add-result c = omega (arith, same-most 9 8 (c .args .x) (c .fits .x .fits) (c .pre))
+unfolding word
+add-result c = omega (arith, bytes-most 8 (c .args .x) 9 (c .fits .x .fits) (c .pre))
 
 returns : tie.Need-returns
-unfolding same
-returns c = bytes-add 48 10 8 (c .args .x) (lit≤ tt) (c .pre)
+unfolding word
+returns c = bytes-more 8 (c .args .x) 10 (c .fits .x .fits) (c .pre) 48 (lit≤ tt)
 
 pub text8-spec : {M : Type 1} → statement M
 text8-spec = tie.close (tie.spec add-result returns)

@@ -159,9 +159,11 @@ returns-4 c =
     let t = f .before .before in
     let s = t .before .before .before .before in
     let l = in-sixteen t in
-    let said = c .before .before .tail16 .ensures in
-    (refl, stands s 16 (l .0) (said .0)
-    (rw (f .before .eight2 .ensures, f .eight3 .ensures, drop-joined (digitByte (s .args .letter)) 16 hex (16 - s .args .len) 8 8 (s .args .n) (omega arith)) at (said .1)))
+    let said = c .before .before .tail16 .ensures in (
+      refl,
+      stands s 16 (l .0) (said .0)
+          (rw (f .before .eight2 .ensures, f .eight3 .ensures, drop-joined (digitByte (s .args .letter)) 16 hex (16 - s .args .len) 8 8 (s .args .n) (omega arith)) at (said .1)),
+    )
 
 pub write-spec : {M : Type 1} → statement M
 write-spec =

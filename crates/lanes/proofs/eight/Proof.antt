@@ -1,46 +1,25 @@
--- `lanes::eight` meets its contract: each lane of the spread digits becomes its byte. Assumes nothing.
+-- `lanes::eight` meets its contract. Assumes nothing.
+use mathlib.Core.List.{map}
 use mathlib.Core.Path.{ap, _∙_}
-use Prim.Native.Nat.{_+_, _*_, _/_, _^_, _≤_}
-use native.Mathlib.Nat.{lt-of-le-of-lt}
-use native.Mathlib.Omega.{arith}
-use lib.Dec.{lit<}
-use Rattle.lanes.specs.Lanes.{word}
-use Rattle.lanes.proofs.Letters.{digits-most, letters-most, text-most, text-word, hex-bytes}
-use Rattle.words.specs.Bytes.{bytesOf}
+use lib.Dec.{lit<, lit≤}
+use Rattle.digits.specs.Text.{lastText}
+use Rattle.lanes.specs.Letters.{digitByte}
+use Rattle.lanes.proofs.Letters.{bytes-last, below-last}
 use borrow.Author.Needs.{needs}
 use Rattle.lanes.proofs.eight.Statement.{statement}
 use Rattle.lanes.proofs.eight.Tie as tie
 
-few : (c : tie.After-spread8) → c .spread8 .result ≤ 0x0101_0101_0101_0101 * 15
-unfolding word
-few c = digits-most 15 (lit< tt) 8 (c .before .args .n) (c .spread8 .result) (c .spread8 .ensures)
-
 spread8-requires : tie.Need-spread8-requires
 spread8-requires c κs = search needs
 
-add-tens : tie.Need-add-tens
-add-tens c = omega (arith, few c)
-
-add-result : tie.Need-add-result
-add-result c = omega (arith, few c)
-
-sub-result : tie.Need-sub-result
-sub-result c = search needs
-
-mul-result : tie.Need-mul-result
-mul-result c = record { fits = lt-of-le-of-lt (letters-most ((c .spread8 .result + 0x0606_0606_0606_0606) / 2 ^ 4) 0x0101_0101_0101_0101 (c .before .args .letter) (c .before .pre .1)) (lit< tt) }
-
-add-result-2 : tie.Need-add-result-2
-add-result-2 c = record { fits = lt-of-le-of-lt (text-most ((c .spread8 .result + 0x0606_0606_0606_0606) / 2 ^ 4) 0x0101_0101_0101_0101 (c .before .args .letter) (c .before .pre .1) (c .spread8 .result) (few c)) (lit< tt) }
+spelled-requires : tie.Need-spelled-requires
+spelled-requires c κs = let s = c .before in (s .pre .0, s .pre .1, below-last 16 8 (s .args .n) (lit< tt) (lit≤ tt) (c .spread8 .ensures))
 
 returns : tie.Need-returns
-unfolding word
+unfolding lastText
 returns c =
-    let a = c .before .args in
-    let p = c .before .pre in
-    ap (bytesOf 8) (text-word 8 (a .n) (a .letter) (p .0) (c .spread8 .result) (c .spread8 .ensures)) ∙ hex-bytes 8 (a .n) (a .letter) (p .0) (p .1)
+    let s = c .before .before in
+    c .spelled .ensures ∙ ap (map (digitByte (s .args .letter))) (bytes-last 16 8 (s .args .n) (lit< tt) (lit≤ tt) (c .before .spread8 .ensures))
 
 pub eight-spec : {M : Type 1} → statement M
-eight-spec =
-    tie.close
-    (tie.spec spread8-requires add-tens add-result sub-result mul-result add-result-2 returns)
+eight-spec = tie.close (tie.spec spread8-requires spelled-requires returns)

@@ -1,46 +1,47 @@
--- `lanes::four` meets its contract: each lane of the spread digits becomes its byte. Assumes nothing.
-use mathlib.Core.Path.{ap, _∙_}
-use Prim.Native.Nat.{_+_, _*_, _/_, _^_, _≤_}
-use native.Mathlib.Nat.{lt-of-le-of-lt}
-use native.Mathlib.Omega.{arith}
-use lib.Dec.{lit<}
-use Rattle.lanes.specs.Lanes.{word}
-use Rattle.lanes.proofs.Letters.{digits-most, letters-most, text-most, text-word, hex-bytes}
+-- `lanes::four` meets its contract: zeros lie in the four bytes above. Assumes nothing.
+use mathlib.Core.List.{map, _++_}
+use mathlib.Core.Path.{sym, ap, _∙_, subst}
+use Prim.Native.Nat.{ℕ}
+use native.Mathlib.Nat.{div-eq-of-lt}
+use lib.Dec.{lit<, lit≤}
+use lib.ListN.{take}
+use Rattle.digits.specs.Digits.{Below}
+use Rattle.digits.specs.Text.{lastText}
+use Rattle.digits.proofs.Digits.{Below-append}
+use Rattle.lanes.specs.Letters.{digitByte}
+use Rattle.lanes.proofs.Letters.{bytes-last, below-last}
 use Rattle.words.specs.Bytes.{bytesOf}
+use Rattle.words.proofs.Bytes.{bytes-mod, bytes-split}
+use Rattle.words.proofs.Loads.{bytes-take}
 use borrow.Author.Needs.{needs}
 use Rattle.lanes.proofs.four.Statement.{statement}
 use Rattle.lanes.proofs.four.Tie as tie
 
-few : (c : tie.After-spread4) → c .spread4 .result ≤ 0x0101_0101 * 15
-unfolding word
-few c = digits-most 15 (lit< tt) 4 (c .before .args .n) (c .spread4 .result) (c .spread4 .ensures)
-
 spread4-requires : tie.Need-spread4-requires
 spread4-requires c κs = search needs
 
-add-tens : tie.Need-add-tens
-add-tens c = omega (arith, few c)
+cast-spelled : tie.Need-cast-spelled
+cast-spelled c = search needs
 
-add-result : tie.Need-add-result
-add-result c = omega (arith, few c)
+spelled-requires : tie.Need-spelled-requires
+unfolding Below bytesOf
+spelled-requires c κs =
+    let s = c .before in
+    let x = c .spread4 .result in
+    let up = bytes-split 4 4 x ∙ ap (λ (y : ℕ). bytesOf 4 x ++ bytesOf 4 y) (div-eq-of-lt (search needs)) in
+    let low = below-last 16 4 (s .args .n) (lit< tt) (lit≤ tt) (c .spread4 .ensures) in
+    (s .pre .0, s .pre .1, subst (Below 16) (sym up) (Below-append 16 (bytesOf 4 x) (bytesOf 4 0) low (lit< tt, (lit< tt, (lit< tt, (lit< tt, tt))))))
 
-sub-result : tie.Need-sub-result
-sub-result c = search needs
-
-mul-result : tie.Need-mul-result
-mul-result c = record { fits = lt-of-le-of-lt (letters-most ((c .spread4 .result + 0x0606_0606) / 2 ^ 4) 0x0101_0101 (c .before .args .letter) (c .before .pre .1)) (lit< tt) }
-
-add-result-2 : tie.Need-add-result-2
-add-result-2 c = record { fits = lt-of-le-of-lt (text-most ((c .spread4 .result + 0x0606_0606) / 2 ^ 4) 0x0101_0101 (c .before .args .letter) (c .before .pre .1) (c .spread4 .result) (few c)) (lit< tt) }
+cast-result : tie.Need-cast-result
+cast-result c = search needs
 
 returns : tie.Need-returns
-unfolding word
+unfolding lastText bytesOf
 returns c =
-    let a = c .before .args in
-    let p = c .before .pre in
-    ap (bytesOf 4) (text-word 4 (a .n) (a .letter) (p .0) (c .spread4 .result) (c .spread4 .ensures)) ∙ hex-bytes 4 (a .n) (a .letter) (p .0) (p .1)
+    let s = c .before .before in
+    let r = c .spelled .result in
+    bytes-mod 4 r ∙ sym (bytes-take 4 4 r) ∙ ap (take 4) (c .spelled .ensures)
+    ∙ ap (map (digitByte (s .args .letter))) (bytes-last 16 4 (s .args .n) (lit< tt) (lit≤ tt) (c .before .spread4 .ensures))
 
 pub four-spec : {M : Type 1} → statement M
-four-spec =
-    tie.close
-    (tie.spec spread4-requires add-tens add-result sub-result mul-result add-result-2 returns)
+four-spec = tie.close (tie.spec spread4-requires cast-spelled spelled-requires cast-result returns)

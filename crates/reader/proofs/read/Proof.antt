@@ -2,7 +2,8 @@
 use mathlib.Core.Path.{sym, _∙_}
 use native.Mathlib.Omega.{arith}
 use Rattle.whole_texts.proofs.Texts.{empty}
-use Rattle.reader.proofs.Outcomes.{known-bits, passed}
+use Rattle.kinds.proofs.Sizes.{known-range}
+use Rattle.reader.proofs.Outcomes.{passed}
 use borrow.Author.Needs.{needs}
 use Rattle.reader.proofs.read.Statement.{statement}
 use Rattle.reader.proofs.read.Tie as tie
@@ -18,7 +19,7 @@ returns-2 c = (sym (c .before .before .before .is-known .ensures) ∙ c .before 
 
 judge-requires : tie.Need-judge-requires
 judge-requires c κs =
-    let k = known-bits _ (sym (c .before .before .before .is-known .ensures) ∙ c .before .before .if1 .taken) in
+    let k = known-range _ (sym (c .before .before .before .is-known .ensures) ∙ c .before .before .if1 .taken) in
     (k .0, k .1, c .before .if2 .left, (let h = c .if3 .left in omega arith))
 
 returns-3 : tie.Need-returns-3

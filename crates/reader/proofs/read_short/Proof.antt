@@ -5,7 +5,8 @@ use Prim.Native.Nat.{ℕ}
 use native.Mathlib.Omega.{arith}
 use Rattle.outcomes.specs.declared.Outcome.the-variants.{Done}
 use Rattle.reader.specs.Answers.{Answers}
-use Rattle.reader.proofs.Outcomes.{known-bits, short-answer}
+use Rattle.kinds.proofs.Sizes.{known-range}
+use Rattle.reader.proofs.Outcomes.{short-answer}
 use borrow.Author.Needs.{needs}
 use Rattle.reader.proofs.read_short.Statement.{statement}
 use Rattle.reader.proofs.read_short.Tie as tie
@@ -36,7 +37,7 @@ is-known-requires c κs = search needs
 
 of-short-requires-2 : tie.Need-of-short-requires-2
 of-short-requires-2 c κs =
-    let k = known-bits _ (sym (c .before .is-known .ensures) ∙ c .if4 .taken) in
+    let k = known-range _ (sym (c .before .is-known .ensures) ∙ c .if4 .taken) in
     (k .0, k .1, c .before .before .before .before .find-short .ensures .0)
 
 returns-4 : tie.Need-returns-4

@@ -9,7 +9,8 @@ use Rattle.radix.specs.Radix.{digitByte}
 use Rattle.reading.specs.Formats.{radixForm}
 use Rattle.outcomes.specs.declared.Outcome.the-variants.{Done}
 use Rattle.reader.specs.Answers.{Judges}
-use Rattle.reader.proofs.Outcomes.{known-bits, hex-held}
+use Rattle.kinds.proofs.Sizes.{known-range}
+use Rattle.reader.proofs.Outcomes.{hex-held}
 use borrow.Author.Needs.{needs}
 use Rattle.reader.proofs.short_hex.Statement.{statement}
 use Rattle.reader.proofs.short_hex.Tie as tie
@@ -39,7 +40,7 @@ is-known-requires : tie.Need-is-known-requires
 is-known-requires c κs = search needs
 
 of-pattern-requires-2 : tie.Need-of-pattern-requires-2
-of-pattern-requires-2 c κs = known-bits _ (sym (c .before .is-known .ensures) ∙ c .if4 .taken)
+of-pattern-requires-2 c κs = known-range _ (sym (c .before .is-known .ensures) ∙ c .if4 .taken)
 
 value-only-requires-2 : tie.Need-value-only-requires-2
 value-only-requires-2 c κs = search needs

@@ -1,5 +1,6 @@
 -- `twenty_digits::eight` meets its contract. Assumes nothing.
 use mathlib.Core.Path.{refl}
+use lib.Dec.{lit≤}
 use Rattle.twenty_digits.proofs.Numbers.{faultless, eight-number}
 use borrow.Author.Needs.{needs}
 use Rattle.twenty_digits.proofs.eight.Statement.{statement}
@@ -21,7 +22,7 @@ returns-2 : tie.Need-returns-2
 returns-2 c = λ z. absurd (z refl)
 
 number-requires : tie.Need-number-requires
-number-requires c κs = c .before .before .faults .ensures (c .before .if1 .left)
+number-requires c κs = (lit≤ tt, lit≤ tt, c .before .before .faults .ensures (c .before .if1 .left))
 
 returns-3 : tie.Need-returns-3
 returns-3 c = λ z.

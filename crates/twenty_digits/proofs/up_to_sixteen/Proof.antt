@@ -1,6 +1,7 @@
 -- `twenty_digits::up_to_sixteen` meets its contract. Assumes nothing.
 use mathlib.Core.Path.{refl}
 use native.Mathlib.Omega.{arith}
+use lib.Dec.{lit≤}
 use Rattle.digit_words.proofs.Masks.{or-zero}
 use Rattle.twenty_digits.proofs.Numbers.{faultless, sixteen-number}
 use borrow.Author.Needs.{needs}
@@ -44,7 +45,7 @@ mul-result : tie.Need-mul-result
 mul-result c = search needs
 
 number-requires : tie.Need-number-requires
-number-requires c κs = let t = c .before .before in t .before .before .faults .ensures (or-zero (t .before .before .faults .result) (t .before .faults2 .result) (t .if1 .left) .0)
+number-requires c κs = (lit≤ tt, lit≤ tt, let t = c .before .before in t .before .before .faults .ensures (or-zero (t .before .before .faults .result) (t .before .faults2 .result) (t .if1 .left) .0))
 
 add-result : tie.Need-add-result
 add-result c = search needs

@@ -2,6 +2,7 @@
 use mathlib.Core.Path.{refl}
 use native.Mathlib.Omega.{arith}
 use lib.Bits.{bitOr}
+use lib.Dec.{lit≤}
 use Rattle.digit_words.proofs.Masks.{or-zero}
 use Rattle.twenty_digits.proofs.Numbers.{faultless, twenty-number}
 use borrow.Author.Needs.{needs}
@@ -60,13 +61,13 @@ mul-result : tie.Need-mul-result
 mul-result c = search needs
 
 number-requires : tie.Need-number-requires
-number-requires c κs = let t = c .before .before .before in t .before .before .faults2 .ensures (or-zero (t .before .before .faults2 .result) (t .before .faults3 .result) (or-zero (t .before .before .before .faults .result) (bitOr (t .before .before .faults2 .result) (t .before .faults3 .result)) (t .if1 .left) .1) .0)
+number-requires c κs = (lit≤ tt, lit≤ tt, let t = c .before .before .before in t .before .before .faults2 .ensures (or-zero (t .before .before .faults2 .result) (t .before .faults3 .result) (or-zero (t .before .before .before .faults .result) (bitOr (t .before .before .faults2 .result) (t .before .faults3 .result)) (t .if1 .left) .1) .0))
 
 mul-result-2 : tie.Need-mul-result-2
 mul-result-2 c = search needs
 
 number-requires-2 : tie.Need-number-requires-2
-number-requires-2 c κs = let t = c .before .before .before .before in t .before .before .before .faults .ensures (or-zero (t .before .before .before .faults .result) (bitOr (t .before .before .faults2 .result) (t .before .faults3 .result)) (t .if1 .left) .0)
+number-requires-2 c κs = (lit≤ tt, lit≤ tt, let t = c .before .before .before .before in t .before .before .before .faults .ensures (or-zero (t .before .before .before .faults .result) (bitOr (t .before .before .faults2 .result) (t .before .faults3 .result)) (t .if1 .left) .0))
 
 add-result : tie.Need-add-result
 add-result c = search needs

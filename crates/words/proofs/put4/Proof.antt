@@ -1,65 +1,27 @@
--- `words::put4` meets its contract: four stores side by side. Assumes nothing.
-use native.Mathlib.Numerals.{add-one, add-two, add-three}
-use native.Mathlib.Omega.{arith}
-use lib.ListN.{length-set}
-use Rattle.words.proofs.Bytes.{bytes-four}
+-- `words::put4` meets its contract: two runs of two. Assumes nothing.
+use mathlib.Core.Path.{_∙_}
+use Rattle.words.proofs.Stores.{sets-halves}
 use borrow.Author.Needs.{needs}
 use Rattle.words.proofs.put4.Statement.{statement}
 use Rattle.words.proofs.put4.Tie as tie
 
-cast-buf : tie.Need-cast-buf
-cast-buf c = search needs
+put2-requires : tie.Need-put2-requires
+put2-requires c κs = search needs
 
-slice-write-buf : tie.Need-slice-write-buf
-slice-write-buf c = search needs
+add-put2 : tie.Need-add-put2
+add-put2 c = search needs
 
-cast-buf-2 : tie.Need-cast-buf-2
-cast-buf-2 c = search needs
-
-add-buf : tie.Need-add-buf
-add-buf c = search needs
-
-slice-write-buf-2 : tie.Need-slice-write-buf-2
-slice-write-buf-2 c = simp length-set (omega arith)
-
-cast-buf-3 : tie.Need-cast-buf-3
-cast-buf-3 c = search needs
-
-add-buf-2 : tie.Need-add-buf-2
-add-buf-2 c = search needs
-
-slice-write-buf-3 : tie.Need-slice-write-buf-3
-slice-write-buf-3 c = simp length-set (omega arith)
-
-cast-buf-4 : tie.Need-cast-buf-4
-cast-buf-4 c = search needs
-
-add-buf-3 : tie.Need-add-buf-3
-add-buf-3 c = search needs
-
-slice-write-buf-4 : tie.Need-slice-write-buf-4
-slice-write-buf-4 c = simp length-set (omega arith)
+put2-requires-2 : tie.Need-put2-requires-2
+put2-requires-2 c κs = search needs
 
 same-length : tie.Need-same-length
 same-length c = search needs
 
 returns : tie.Need-returns
-returns c = rw (bytes-four, add-one, add-two, add-three)
+returns c =
+    let half = c .before .before .before .before .before .before in
+    let s = half .before .before .before in
+    c .before .before .put22 .ensures ∙ rw (half .put2 .ensures) (sets-halves (s .args .buf .now) (s .args .at) 2 2 (s .args .x))
 
 pub put4-spec : {M : Type 1} → statement M
-put4-spec =
-    tie.close
-    (tie.spec
-    cast-buf
-    slice-write-buf
-    cast-buf-2
-    add-buf
-    slice-write-buf-2
-    cast-buf-3
-    add-buf-2
-    slice-write-buf-3
-    cast-buf-4
-    add-buf-3
-    slice-write-buf-4
-    same-length
-    returns)
+put4-spec = tie.close (tie.spec put2-requires add-put2 put2-requires-2 same-length returns)

@@ -1,113 +1,36 @@
--- `words::put8` meets its contract: eight stores side by side. Assumes nothing.
-use native.Mathlib.Numerals.{add-one, add-two, add-three, add-four, add-five, add-six, add-seven}
-use native.Mathlib.Omega.{arith}
-use lib.ListN.{length-set}
-use Rattle.words.proofs.Bytes.{bytes-eight}
+-- `words::put8` meets its contract: two runs of four. Assumes nothing.
+use mathlib.Core.Path.{_∙_}
+use Rattle.words.proofs.Bytes.{bytes-mod}
+use Rattle.words.proofs.Stores.{sets-halves}
 use borrow.Author.Needs.{needs}
 use Rattle.words.proofs.put8.Statement.{statement}
 use Rattle.words.proofs.put8.Tie as tie
 
-cast-buf : tie.Need-cast-buf
-cast-buf c = search needs
+cast-put4 : tie.Need-cast-put4
+cast-put4 c = search needs
 
-slice-write-buf : tie.Need-slice-write-buf
-slice-write-buf c = search needs
+put4-requires : tie.Need-put4-requires
+put4-requires c κs = search needs
 
-cast-buf-2 : tie.Need-cast-buf-2
-cast-buf-2 c = search needs
+cast-put4-2 : tie.Need-cast-put4-2
+cast-put4-2 c = search needs
 
-add-buf : tie.Need-add-buf
-add-buf c = search needs
+add-put4 : tie.Need-add-put4
+add-put4 c = search needs
 
-slice-write-buf-2 : tie.Need-slice-write-buf-2
-slice-write-buf-2 c = simp length-set (omega arith)
-
-cast-buf-3 : tie.Need-cast-buf-3
-cast-buf-3 c = search needs
-
-add-buf-2 : tie.Need-add-buf-2
-add-buf-2 c = search needs
-
-slice-write-buf-3 : tie.Need-slice-write-buf-3
-slice-write-buf-3 c = simp length-set (omega arith)
-
-cast-buf-4 : tie.Need-cast-buf-4
-cast-buf-4 c = search needs
-
-add-buf-3 : tie.Need-add-buf-3
-add-buf-3 c = search needs
-
-slice-write-buf-4 : tie.Need-slice-write-buf-4
-slice-write-buf-4 c = simp length-set (omega arith)
-
-cast-buf-5 : tie.Need-cast-buf-5
-cast-buf-5 c = search needs
-
-add-buf-4 : tie.Need-add-buf-4
-add-buf-4 c = search needs
-
-slice-write-buf-5 : tie.Need-slice-write-buf-5
-slice-write-buf-5 c = simp length-set (omega arith)
-
-cast-buf-6 : tie.Need-cast-buf-6
-cast-buf-6 c = search needs
-
-add-buf-5 : tie.Need-add-buf-5
-add-buf-5 c = search needs
-
-slice-write-buf-6 : tie.Need-slice-write-buf-6
-slice-write-buf-6 c = simp length-set (omega arith)
-
-cast-buf-7 : tie.Need-cast-buf-7
-cast-buf-7 c = search needs
-
-add-buf-6 : tie.Need-add-buf-6
-add-buf-6 c = search needs
-
-slice-write-buf-7 : tie.Need-slice-write-buf-7
-slice-write-buf-7 c = simp length-set (omega arith)
-
-cast-buf-8 : tie.Need-cast-buf-8
-cast-buf-8 c = search needs
-
-add-buf-7 : tie.Need-add-buf-7
-add-buf-7 c = search needs
-
-slice-write-buf-8 : tie.Need-slice-write-buf-8
-slice-write-buf-8 c = simp length-set (omega arith)
+put4-requires-2 : tie.Need-put4-requires-2
+put4-requires-2 c κs = search needs
 
 same-length : tie.Need-same-length
 same-length c = search needs
 
 returns : tie.Need-returns
-returns c = rw (bytes-eight, add-one, add-two, add-three, add-four, add-five, add-six, add-seven)
+returns c =
+    let half = c .before .before .before .before .before .before in
+    let s = half .before .before .before in
+    c .before .before .put42 .ensures ∙ rw (half .put4 .ensures, bytes-mod 4) (sets-halves (s .args .buf .now) (s .args .at) 4 4 (s .args .x))
 
 pub put8-spec : {M : Type 1} → statement M
 put8-spec =
     tie.close
-    (tie.spec
-    cast-buf
-    slice-write-buf
-    cast-buf-2
-    add-buf
-    slice-write-buf-2
-    cast-buf-3
-    add-buf-2
-    slice-write-buf-3
-    cast-buf-4
-    add-buf-3
-    slice-write-buf-4
-    cast-buf-5
-    add-buf-4
-    slice-write-buf-5
-    cast-buf-6
-    add-buf-5
-    slice-write-buf-6
-    cast-buf-7
-    add-buf-6
-    slice-write-buf-7
-    cast-buf-8
-    add-buf-7
-    slice-write-buf-8
-    same-length
-    returns)
+    (tie.spec cast-put4 put4-requires cast-put4-2 add-put4 put4-requires-2 same-length returns)
