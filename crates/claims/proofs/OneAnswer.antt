@@ -18,5 +18,5 @@ one-answer = record {
   parts = λ sign ps src out r s m n p q. parting.one-answer p q;
   edge-write = λ t a l n v k w m m′ p q. edge.one-answer p q;
   edge-read = λ sgn bits format t n v k w p q. edge.one-reading p q;
-  size = λ sgn bits m n k p q. sizes.one-answer (p k) (q k);
+  size = λ sgn bits m n p q. sizes.one-answer p q;
 }

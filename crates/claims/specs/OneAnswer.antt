@@ -1,5 +1,5 @@
 -- Two answers that meet the promise of a public entry are equal, and so is what they leave: for each entry.
-use mathlib.Core.Bool.{Bool, true}
+use mathlib.Core.Bool.{Bool}
 use mathlib.Core.List.{List}
 use mathlib.Core.Path.{_≡_}
 use Prim.Native.Nat.{ℕ}
@@ -8,7 +8,7 @@ use lib.ListN.{length}
 use Rattle.decimal.specs.Ends.{EndPromise}
 use Rattle.digits.specs.Text.{decimal, signed}
 use Rattle.edge.specs.Edge as edge
-use Rattle.kinds.specs.Kinds.{known, meaning, Greatest}
+use Rattle.kinds.specs.Kinds.{meaning, BufSize}
 use Rattle.outcomes.specs.declared.Outcome.{Outcome}
 use Rattle.part_answers.specs.Answers as parting
 use Rattle.part_answers.specs.declared.Wrote.{Wrote}
@@ -38,5 +38,5 @@ pub record OneAnswer : Type 0 where
   -- the C edge: lgv_write, lgv_write_short; lgv_read. Its end entries are decimal's
   pub edge-write : (t : List ℕ) (a : Written) (l : List ℕ) (n v k w : ℕ) (m m′ : List ℕ) → edge.Answers t a l n v m → edge.Answers t a l k w m′ → (n ≡ k) × (v ≡ w) × (m ≡ m′)
   pub edge-read : (sgn : Bool) (bits format : ℕ) (t : List ℕ) (n v k w : ℕ) → edge.Reads sgn bits format t n v → edge.Reads sgn bits format t k w → (n ≡ k) × (v ≡ w)
-  -- kinds::Kind::buf_size, of a type
-  pub size : (sgn : Bool) (bits m n : ℕ) → known bits ≡ true → (known bits ≡ true → Greatest sgn bits m) → (known bits ≡ true → Greatest sgn bits n) → m ≡ n
+  -- kinds::Kind::buf_size
+  pub size : (sgn : Bool) (bits m n : ℕ) → BufSize sgn bits m → BufSize sgn bits n → m ≡ n

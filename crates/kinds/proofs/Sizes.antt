@@ -1,7 +1,7 @@
 -- The greatest decimal length of a type, once over the bits; and which bits a type has.
 -- Assumes nothing.
 use mathlib.Core.Bool.{Bool, true, false}
-use mathlib.Core.Path.{_≡_, refl}
+use mathlib.Core.Path.{_≡_, refl, sym, _∙_}
 use Prim.Native.Nat.{ℕ, suc, _-_, _^_, _≤_}
 use native.Mathlib.Omega.{arith}
 use borrow.Author.Tests.{eqb-true, ltb-true, lt-ltb, ne-eqb}
@@ -11,7 +11,7 @@ use lib.ListN.{length}
 use lib.Pow.{pow-pos}
 use Rattle.digits.specs.Text.{ascii, decimal, signed}
 use Rattle.digits.proofs.Text.{text-mono}
-use Rattle.kinds.specs.Kinds.{known, inType, Greatest}
+use Rattle.kinds.specs.Kinds.{known, inType, Greatest, BufSize}
 
 longer : {n m : ℕ} → n ≤ m → length (decimal n) ≤ length (decimal m)
 longer h = text-mono ascii 10 (lit< tt) h
@@ -45,14 +45,24 @@ greatest-signed b = record {
     never (negsuc k) t = omega (arith, longer {n = suc k} {m = suc (2 ^ (b - 1) - 1)} (omega (arith, ltb-true k (2 ^ (b - 1)) t)))
 
 -- a type has one: each of two is reached, and is not exceeded by the other
-pub one-answer : {sign : Bool} {b m n : ℕ} → Greatest sign b m → Greatest sign b n → m ≡ n
-one-answer p q = omega (arith, p .never (q .longest) (q .is-value), q .never (p .longest) (p .is-value), p .reached, q .reached)
+one-greatest : {sign : Bool} {b m n : ℕ} → Greatest sign b m → Greatest sign b n → m ≡ n
+one-greatest p q = omega (arith, p .never (q .longest) (q .is-value), q .never (p .longest) (p .is-value), p .reached, q .reached)
 
--- what is none of the bits of a type
-pub unknown : {X : Type 0} (b : ℕ) → (((Unit {0} × (b ≡ 8 → ⊥)) × (b ≡ 16 → ⊥)) × (b ≡ 32 → ⊥)) × (b ≡ 64 → ⊥) → known b ≡ true → X
-unknown b h t =
+pub one-answer : {sign : Bool} {b m n : ℕ} → BufSize sign b m → BufSize sign b n → m ≡ n
+one-answer {sign} {b} {m} {n} p q = go (known b) refl
+  where
+    go : (t : Bool) → known b ≡ t → m ≡ n
+    go true e = one-greatest (p .of-type e) (q .of-type e)
+    go false e = p .of-none e ∙ sym (q .of-none e)
+
+-- the size of a type, and of what is none of the bits of a type
+pub of-type : {sign : Bool} {b n : ℕ} → known b ≡ true → Greatest sign b n → BufSize sign b n
+of-type k g = record { of-type = λ _. g; of-none = λ h. absurd (let z : _≡_ {A = ℕ} 0 1 = cc in omega arith) }
+
+pub of-none : {sign : Bool} (b : ℕ) → (((Unit {0} × (b ≡ 8 → ⊥)) × (b ≡ 16 → ⊥)) × (b ≡ 32 → ⊥)) × (b ≡ 64 → ⊥) → BufSize sign b 0
+of-none b h =
     let f : known b ≡ false = rw (ne-eqb b 8 (h .0 .0 .0 .1), ne-eqb b 16 (h .0 .0 .1), ne-eqb b 32 (h .0 .1), ne-eqb b 64 (h .1)) in
-    absurd (let z : _≡_ {A = ℕ} 0 1 = cc in omega arith)
+    record { of-type = λ k. absurd (let z : _≡_ {A = ℕ} 0 1 = cc in omega arith); of-none = λ _. refl }
 
 -- a type has 1 to 64 bits
 pub known-range : (bits : ℕ) → known bits ≡ true → (1 ≤ bits) × (bits ≤ 64)

@@ -47,3 +47,8 @@ pub record Greatest (sign : Bool) (bits size : ℕ) : Type 0 where
   pub longest : ℤ
   pub is-value : inType sign bits longest ≡ true
   pub reached : length (signed longest) ≡ size
+
+-- The size of a buffer for the decimals of a type: of a type the greatest decimal length, of bits that no type has 0.
+pub record BufSize (sign : Bool) (bits size : ℕ) : Type 0 where
+  pub of-type : known bits ≡ true → Greatest sign bits size
+  pub of-none : known bits ≡ false → size ≡ 0

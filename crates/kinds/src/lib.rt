@@ -3,7 +3,7 @@
 ghost use mathlib.Core.Bool.{true, false};
 ghost use mathlib.Core.Path.{_≡_};
 ghost use Prim.Native.Nat.{_≤_};
-ghost use Rattle.kinds.specs.Kinds.{known, inType, pattern, meaning, splitOf, Greatest};
+ghost use Rattle.kinds.specs.Kinds.{known, inType, pattern, meaning, splitOf, BufSize};
 
 // A type: its bits (8, 16, 32, 64), and whether it is signed.
 pub struct Kind {
@@ -170,7 +170,7 @@ impl I64 {
 impl Kind {
     // The bytes that the type's longest decimal takes; 0 where the bits are no type's.
     pub fn buf_size(self) -> usize
-        ensures { λ r. ⌜ (known (self .bits) ≡ true → Greatest (self .signed) (self .bits) r) ⌝ }
+        ensures { λ r. ⌜ BufSize (self .signed) (self .bits) r ⌝ }
     {
         let bits = self.bits;
         if self.signed {
