@@ -4,7 +4,7 @@
 //     p and 12 numbers      source sign, kind and two numbers for each of three parts, room: `NUMBER VALUE` of Formatted::length,
 //                           and `NUMBER VALUE [BUFFER]` of Formatted::write
 //     l and 4 to 40 numbers count source sign, kind and two numbers for each of so many parts, 12 at most, room: the same of
-//                           part_list::length12 and write12
+//                           twelve_parts::length and write
 use fields::lines;
 use fields::output;
 

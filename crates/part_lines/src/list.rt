@@ -35,8 +35,8 @@ fn both(
     let room = &mut space[..n];
     let sign = word(fields[2]);
     let list = twelve(fields);
-    let length = part_list::length12(sign, list, count, source.len());
-    let wrote = part_list::write12(sign, list, count, source, room);
+    let length = twelve_parts::length(sign, list, count, source.len());
+    let wrote = twelve_parts::write(sign, list, count, source, room);
     shown(length, wrote, room, out, waiting)
 }
 

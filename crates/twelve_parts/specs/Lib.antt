@@ -1,0 +1,2 @@
+-- Twelve parts by value.
+pub mod Twelve
