@@ -30,16 +30,20 @@ pub fn write_short(kind: Kind, value: u64, format: u32, out: &mut [u8]) -> Writt
     if !kinds::in_type(kind.signed, kind.bits, value) {
         return Written::ValueRefused;
     }
-    if format <= 4 {
-        let room = out.len();
+    let room = out.len();
+    if format <= 2 {
         let need = values::write_plainly(kind.signed, kind.bits, value, format, out);
+        return writing::settle(need, room);
+    }
+    // Hex at once: on the way of the others it would cost a tenth more.
+    if format <= 4 {
+        let need = values::write_hex(kind.signed, kind.bits, value, format, out);
         return writing::settle(need, room);
     }
     if 6 < format {
         return Written::OptionsRefused;
     }
     let split = kinds::split_pattern(kind.signed, value);
-    let room = out.len();
     let need = framing::write_bare_in_full(format, split.magnitude, split.negative, out);
     writing::settle(need, room)
 }
