@@ -26,7 +26,7 @@ fn shown(signed: bool, bits: u32, value: u64, format: u32) -> Split
     }
 }
 
-// Hex with nothing around it. The length, and in out where it has room.
+// Hex with nothing around it, for who has told it from the other forms. The length, and in out where it has room.
 pub fn write_hex(signed: bool, bits: u32, value: u64, format: u32, out: &mut [u8]) -> usize
     requires { ⌜ (known bits ≡ true) × (inType signed bits (meaning 64 signed value) ≡ true) × (2 < format) × (format ≤ 4) ⌝ }
     ensures { λ r. ⌜ ((o : Options) (p : Precision) → Unframed o p → Places (textOf bits (meaning 64 signed value) format o) (now (out .entry)) r (now (out .exit))) ⌝ }
@@ -40,10 +40,10 @@ pub fn write_plainly(signed: bool, bits: u32, value: u64, format: u32, out: &mut
     requires { ⌜ (known bits ≡ true) × (inType signed bits (meaning 64 signed value) ≡ true) × (format ≤ 4) ⌝ }
     ensures { λ r. ⌜ ((o : Options) (p : Precision) → Unframed o p → Places (textOf bits (meaning 64 signed value) format o) (now (out .entry)) r (now (out .exit))) ⌝ }
 {
-    if 2 < format {
-        return write_hex(signed, bits, value, format, out);
-    }
     let number = shown(signed, bits, value, format);
+    if 2 < format {
+        return framing::write_hex(format, number.magnitude, out);
+    }
     // Decimal apart, so that the compiler knows the format there.
     if format == 0 {
         return framing::write_bare(format, number.magnitude, number.negative, out);
