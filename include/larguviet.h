@@ -112,8 +112,8 @@ lgv_answer lgv_write_short(uint32_t bits, uint32_t is_signed, uint64_t value, ui
  * If it is done, value is the number; if signed, its 64-bit two's complement, so
  * (int64_t)answer.value. The first that applies of these refuses: LGV_TYPE,
  * LGV_OPTIONS, LGV_EMPTY, LGV_SHAPE, LGV_NOT_CANONICAL, LGV_RANGE. The place that
- * goes with LGV_SHAPE is the offset of the first byte with which no text of the
- * format can begin, or text_len if the text merely stops too early.
+ * goes with LGV_SHAPE is the offset of the first byte after which the bytes so far
+ * begin no text of the format, or text_len if the text merely stops too early.
  *
  *     lgv_read(8, 0, LGV_DECIMAL, text, 3)   "255": LGV_DONE with 255
  *                                            "256": LGV_RANGE
@@ -163,8 +163,8 @@ typedef struct {
     uint32_t has_precision;
 } lgv_options;
 
-/* lgv_write with a struct of options, and the same for each type: all of these take
- * a value of the type, so none refuses with LGV_TYPE or LGV_VALUE. */
+/* lgv_write with a struct of options, and the same for each type: those by type take
+ * a value of the type, so none of them refuses with LGV_TYPE or LGV_VALUE. */
 static inline lgv_answer lgv_write_with(uint32_t bits, uint32_t is_signed, uint64_t value, uint32_t format,
                                         lgv_options options, uint8_t *out, size_t out_len)
 {

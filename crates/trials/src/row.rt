@@ -69,20 +69,24 @@ pub fn buffer_i64(label: &[u8], value: i64, room: usize) {
     bracketed(out);
 }
 
-// The part that end_u64 hands back.
+// The part that end_u64 hands back, and the whole buffer, whose bytes in front of the part no contract can name.
 pub fn part_u64(label: &[u8], value: u64, room: usize) {
     io::write_all(1, label);
     let mut space = [b'.'; 24];
     let n = within(room, &space);
-    let part = decimal::end_u64(value, &mut space[..n]);
+    let out = &mut space[..n];
+    let part = decimal::end_u64(value, out);
     bracketed(&part[..]);
+    bracketed(out);
 }
 
-// The part that end_i64 hands back.
+// The part that end_i64 hands back, and the whole buffer, whose bytes in front of the part no contract can name.
 pub fn part_i64(label: &[u8], value: i64, room: usize) {
     io::write_all(1, label);
     let mut space = [b'.'; 24];
     let n = within(room, &space);
-    let part = decimal::end_i64(value, &mut space[..n]);
+    let out = &mut space[..n];
+    let part = decimal::end_i64(value, out);
     bracketed(&part[..]);
+    bracketed(out);
 }
