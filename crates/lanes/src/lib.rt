@@ -1,4 +1,4 @@
-// Hex and binary digits side by side in a word, one a byte, the first in the lowest: four or eight of them at once, and no loop.
+// Hex, octal and binary digits side by side in a word, one a byte, the first in the lowest: four or eight of them at once, and no loop.
 ghost use mathlib.Core.List.{map};
 ghost use mathlib.Core.Path.{_≡_};
 ghost use Prim.Native.Nat.{_<_, _≤_};
@@ -87,10 +87,36 @@ fn spread_bits(n: u64) -> u64
     (n >> 7) + ((n * 0x0100_8040_2010_0804) & 0x0101_0101_0101_0100)
 }
 
-// Their text.
+// The text of eight digits that lie one a byte and are below ten: `0` more in each.
+fn shown(x: u64) -> u64
+    requires { ⌜ Below 10 (bytesOf 8 x) ⌝ }
+    ensures { λ r. ⌜ bytesOf 8 r ≡ map ascii (bytesOf 8 x) ⌝ }
+{
+    x + 0x3030_3030_3030_3030
+}
+
+// The text of the eight binary digits of n.
 pub fn eight_bits(n: u64) -> u64
     requires { ⌜ n < 256 ⌝ }
     ensures { λ r. ⌜ bytesOf 8 r ≡ lastText ascii 2 8 n ⌝ }
 {
-    spread_bits(n) + 0x3030_3030_3030_3030
+    shown(spread_bits(n))
+}
+
+// The eight octal digits of n. The halves of each lane go into lanes of half the size, three times.
+fn spread_octal(n: u64) -> u64
+    requires { ⌜ n < 16777216 ⌝ }
+    ensures { λ r. ⌜ r ≡ word 256 (last 8 8 n) ⌝ }
+{
+    let fours = (n >> 12) + ((n % 4096) << 32);
+    let pairs = ((fours >> 6) & 0x0000_003f_0000_003f) + ((fours & 0x0000_003f_0000_003f) << 16);
+    ((pairs >> 3) & 0x0007_0007_0007_0007) + ((pairs & 0x0007_0007_0007_0007) << 8)
+}
+
+// The text of the eight octal digits of n.
+pub fn eight_octal(n: u64) -> u64
+    requires { ⌜ n < 16777216 ⌝ }
+    ensures { λ r. ⌜ bytesOf 8 r ≡ lastText ascii 8 8 n ⌝ }
+{
+    shown(spread_octal(n))
 }
