@@ -103,13 +103,21 @@ pub fn eight_bits(n: u64) -> u64
     shown(spread_bits(n))
 }
 
-// The eight octal digits of n. The halves of each lane go into lanes of half the size, three times.
+// Eight octal digits of n, four and four.
+fn octal_halves(n: u64) -> u64
+    requires { ⌜ n < 16777216 ⌝ }
+    ensures { λ r. ⌜ r ≡ word 4294967296 (last 4096 2 n) ⌝ }
+{
+    (n >> 12) + ((n % 4096) << 32)
+}
+
+// One by one: twice the halves of each lane go into lanes of half the size.
 fn spread_octal(n: u64) -> u64
     requires { ⌜ n < 16777216 ⌝ }
     ensures { λ r. ⌜ r ≡ word 256 (last 8 8 n) ⌝ }
 {
-    let fours = (n >> 12) + ((n % 4096) << 32);
-    let pairs = ((fours >> 6) & 0x0000_003f_0000_003f) + ((fours & 0x0000_003f_0000_003f) << 16);
+    let halves = octal_halves(n);
+    let pairs = ((halves >> 6) & 0x0000_003f_0000_003f) + ((halves & 0x0000_003f_0000_003f) << 16);
     ((pairs >> 3) & 0x0007_0007_0007_0007) + ((pairs & 0x0007_0007_0007_0007) << 8)
 }
 
