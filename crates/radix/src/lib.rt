@@ -77,18 +77,6 @@ fn digit_count(shift: u32, n: u64) -> usize
     ((digits::bit_length(n) + (shift - 1)) / shift) as usize
 }
 
-// Binary, of 1 bit a digit, and octal, of 3: a few digits by the table, more of them in words.
-fn write_bits(shift: u32, n: u64, buf: &mut [u8], end: usize) -> usize
-    requires { ⌜ (shift % 2 ≡ 1) × (shift < 4) × (length (text lower (2 ^ shift) n) ≤ end) × (end ≤ length (now buf)) ⌝ }
-    ensures { λ r. ⌜ (r ≡ end - length (text lower (2 ^ shift) n)) × (now (buf .exit) ≡ ended (now (buf .entry)) end (text lower (2 ^ shift) n)) ⌝ }
-{
-    let len = digit_count(shift, n);
-    if len <= 4 {
-        return write_digits(shift, n, buf, end);
-    }
-    bit_eights::write(shift, n, len, buf, end)
-}
-
 // Hex, with letters from `letter` on.
 fn write_hex(letter: u8, n: u64, buf: &mut [u8], end: usize) -> usize
     requires { ⌜ (57 < letter) × (letter ≤ 250) × (length (text (digitByte letter) 16 n) ≤ end) × (end ≤ length (now buf)) ⌝ }
@@ -97,19 +85,40 @@ fn write_hex(letter: u8, n: u64, buf: &mut [u8], end: usize) -> usize
     end - hex::write(letter, n, hex::count(n), buf, end)
 }
 
+// Binary and octal of n, whose len digits are counted: a few by the table, more of them in words.
+pub fn counted_binary(n: u64, len: usize, buf: &mut [u8], end: usize) -> usize
+    requires { ⌜ (len ≡ length (text lower 2 n)) × (len ≤ end) × (end ≤ length (now buf)) ⌝ }
+    ensures { λ r. ⌜ (r ≡ end - length (text lower 2 n)) × (now (buf .exit) ≡ ended (now (buf .entry)) end (text lower 2 n)) ⌝ }
+{
+    if len <= 4 {
+        return write_digits(1, n, buf, end);
+    }
+    bit_eights::binary(n, len, buf, end)
+}
+
+pub fn counted_octal(n: u64, len: usize, buf: &mut [u8], end: usize) -> usize
+    requires { ⌜ (len ≡ length (text lower 8 n)) × (len ≤ end) × (end ≤ length (now buf)) ⌝ }
+    ensures { λ r. ⌜ (r ≡ end - length (text lower 8 n)) × (now (buf .exit) ≡ ended (now (buf .entry)) end (text lower 8 n)) ⌝ }
+{
+    if len <= 4 {
+        return write_digits(3, n, buf, end);
+    }
+    bit_eights::octal(n, len, buf, end)
+}
+
 // The four texts of a pattern, each just before the index end. The answer is where it starts.
 pub fn write_binary(n: u64, buf: &mut [u8], end: usize) -> usize
     requires { ⌜ (length (text lower 2 n) ≤ end) × (end ≤ length (now buf)) ⌝ }
     ensures { λ r. ⌜ (r ≡ end - length (text lower 2 n)) × (now (buf .exit) ≡ ended (now (buf .entry)) end (text lower 2 n)) ⌝ }
 {
-    write_bits(1, n, buf, end)
+    counted_binary(n, digit_count(1, n), buf, end)
 }
 
 pub fn write_octal(n: u64, buf: &mut [u8], end: usize) -> usize
     requires { ⌜ (length (text lower 8 n) ≤ end) × (end ≤ length (now buf)) ⌝ }
     ensures { λ r. ⌜ (r ≡ end - length (text lower 8 n)) × (now (buf .exit) ≡ ended (now (buf .entry)) end (text lower 8 n)) ⌝ }
 {
-    write_bits(3, n, buf, end)
+    counted_octal(n, digit_count(3, n), buf, end)
 }
 
 pub fn write_lower_hex(n: u64, buf: &mut [u8], end: usize) -> usize
