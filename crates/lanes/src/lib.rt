@@ -14,7 +14,7 @@ fn spread4(n: u32) -> u32
     ensures { λ r. ⌜ r ≡ word 256 (last 16 4 n) ⌝ }
 {
     let bytes = (n >> 8) + ((n % 256) << 16);
-    ((bytes >> 4) & 0x000f_000f) + ((bytes & 0x000f_000f) << 8)
+    ((bytes >> 4) | (bytes << 8)) & 0x0f0f_0f0f
 }
 
 // The four bytes of n in the other order.
@@ -40,7 +40,7 @@ fn spread8(n: u64) -> u64
     ensures { λ r. ⌜ r ≡ word 256 (last 16 8 n) ⌝ }
 {
     let bytes = wide_bytes(n);
-    ((bytes >> 4) & 0x000f_000f_000f_000f) + ((bytes & 0x000f_000f_000f_000f) << 8)
+    ((bytes >> 4) | (bytes << 8)) & 0x0f0f_0f0f_0f0f_0f0f
 }
 
 // The text of eight hex digits that lie one a byte. Six more carry a digit from ten on into the next bit of its lane: there the step from `:` (58) to the letter is added.
@@ -117,8 +117,8 @@ fn spread_octal(n: u64) -> u64
     ensures { λ r. ⌜ r ≡ word 256 (last 8 8 n) ⌝ }
 {
     let halves = octal_halves(n);
-    let pairs = ((halves >> 6) & 0x0000_003f_0000_003f) + ((halves & 0x0000_003f_0000_003f) << 16);
-    ((pairs >> 3) & 0x0007_0007_0007_0007) + ((pairs & 0x0007_0007_0007_0007) << 8)
+    let pairs = ((halves >> 6) | (halves << 16)) & 0x003f_003f_003f_003f;
+    ((pairs >> 3) | (pairs << 8)) & 0x0707_0707_0707_0707
 }
 
 // The text of the eight octal digits of n.
