@@ -87,10 +87,10 @@ fn write_digits(format: u32, n: u64, count: usize, out: &mut [u8], end: usize) -
         return decimal::write_before(n, out, end);
     }
     if format == 1 {
-        return radix::write_binary(n, out, end);
+        return radix::counted_binary(n, count, out, end);
     }
     if format == 2 {
-        return radix::write_octal(n, out, end);
+        return radix::counted_octal(n, count, out, end);
     }
     let at = end - count;
     write_hex(format, n, &mut out[at..end]);

@@ -1,16 +1,15 @@
--- Laws of numbers side by side in a word: a shift and a mask take the same bits of each, and the halves of each go into lanes of half the size.
+-- Laws of numbers side by side in a word: a shift and a mask take the same bits of each, and two digits stand in the place of each of the squared base.
 -- Over all naturals. Assumes nothing.
 use mathlib.Core.Path.{_≡_, refl, sym, ap, ap₂, _∙_}
 use mathlib.Core.List.{List, [], _∷_, map}
 use Prim.Native.Nat.{ℕ, zero, suc, _+_, _*_, _-_, _/_, _%_, _^_, _≤_, _<_}
-use native.Mathlib.Nat.{add-zero, suc-add, add-suc, zero-mul, mul-comm, mul-assoc, pow-zero, pow-suc, div-one, mod-mod, div-add-mod', div-div-eq-div-mul, div-lt-iff-lt-mul, mod-lt, mul-add-mod-self-right, mul-le-mul-right, lt-of-lt-of-le, mod-eq-of-lt, lt-of-le-of-lt, le-trans, mod-le, add-le-add, one-mul}
+use native.Mathlib.Nat.{add-zero, suc-add, add-suc, zero-mul, mul-comm, mul-assoc, pow-zero, pow-suc, div-one, mod-mod, div-add-mod', div-div-eq-div-mul, div-lt-iff-lt-mul, mod-lt, mul-add-mod-self-right, mul-le-mul-right, lt-of-lt-of-le, mod-eq-of-lt, one-mul}
 use native.Mathlib.Omega.{arith}
 use lib.Arith.{digits-lt, digits-div, digits-mod, mod-mul}
-use lib.Bits.{bitAnd, and-block, and-mask, and-zero-r, and-le-r}
+use lib.Bits.{bitAnd, and-block, and-mask, and-zero-r}
 use lib.ListN.{length, replicate}
-use lib.Pow.{pow-add, pow-pos, pow-lt, pow-mono, ones-lt}
+use lib.Pow.{pow-add, pow-pos, pow-mono, ones-lt}
 use Rattle.digits.specs.Digits.{last, Below}
-use Rattle.digits.proofs.Last.{length-last, last-below}
 use Rattle.lanes.specs.Lanes.{word}
 
 pub below-more : {b c : ℕ} → b ≤ c → (ds : List ℕ) → Below b ds → Below c ds
@@ -21,7 +20,7 @@ below-more h (d ∷ ds) p = (lt-of-lt-of-le (p .0) h, below-more h ds (p .1))
 -- ---- a field of each lane
 
 -- a word of lanes of c * j * q, shifted by q: what falls from a lane goes to the top of the one below
-shifted : (v c j q d : ℕ) → 0 < q → (v * (c * j * q) + d) / q ≡ v / q * (c * j * q) + (v % q * (c * j) + d / q)
+pub shifted : (v c j q d : ℕ) → 0 < q → (v * (c * j * q) + d) / q ≡ v / q * (c * j * q) + (v % q * (c * j) + d / q)
 shifted v c j q d p =
     let m : v / q * q + v % q ≡ v = div-add-mod' v q in
     let n : d / q * q + d % q ≡ d = div-add-mod' d q in
@@ -73,7 +72,7 @@ unfoldable pub both : (ℕ → ℕ) → (ℕ → ℕ) → List ℕ → List ℕ
 both f g [] = []
 both f g (d ∷ ds) = f d ∷ g d ∷ both f g ds
 
-halved : (b : ℕ) (f g : ℕ → ℕ) (ds : List ℕ) → word (b * b) (map f ds) + word (b * b) (map g ds) * b ≡ word b (both f g ds)
+pub halved : (b : ℕ) (f g : ℕ → ℕ) (ds : List ℕ) → word (b * b) (map f ds) + word (b * b) (map g ds) * b ≡ word b (both f g ds)
 unfolding word both
 halved b f g [] = omega arith
 halved b f g (d ∷ ds) = rw (← halved b f g ds) (omega arith)
@@ -89,7 +88,7 @@ pub square : (q k : ℕ) → (q * q) ^ k ≡ q ^ (k + k)
 square q zero = pow-zero (q * q) ∙ sym (pow-zero q)
 square q (suc k) = rw (pow-suc, square q k, suc-add, add-suc, pow-suc, pow-suc) (omega arith)
 
-digits-halves : (q k n : ℕ) → 0 < q → both (λ (d : ℕ). d / q % q) (λ (d : ℕ). d % q) (last (q * q) k n) ≡ last q (k + k) n
+pub digits-halves : (q k n : ℕ) → 0 < q → both (λ (d : ℕ). d / q % q) (λ (d : ℕ). d % q) (last (q * q) k n) ≡ last q (k + k) n
 unfolding both last
 digits-halves q zero n p = refl
 digits-halves q (suc k) n p =
@@ -97,40 +96,6 @@ digits-halves q (suc k) n p =
     let t : n / q ^ suc (k + k) ≡ n / q ^ (k + k) / q = ap (λ (x : ℕ). n / x) (pow-suc q (k + k)) ∙ sym (div-div-eq-div-mul n (q ^ (k + k)) q) in
     rw (suc-add, add-suc, t, square q k)
     (ap₂ (λ (x : ℕ) (l : List ℕ). x ∷ l) (h .0) (ap₂ (λ (x : ℕ) (l : List ℕ). x ∷ l) (h .1) (digits-halves q k n p)))
-
--- ---- a step of spreading: k digits of 2 * s bits in lanes of 2 * w become twice as many of s bits in lanes of w
-
-module _ (c s w : ℕ) (p : 0 < s) (e : c + s + s ≡ w + w) where
-  big : 1 < 2 ^ s * 2 ^ s
-  big = rw (← pow-add 2 s s) (pow-lt {i = 0} {j = s + s} (omega arith))
-
-  inside : (k n : ℕ) → Below (2 ^ (c + s + s)) (last (2 ^ s * 2 ^ s) k n)
-  inside k n =
-      let h : 2 ^ s * 2 ^ s ≤ 2 ^ (c + s + s) = rw (← pow-add 2 s s) (pow-mono (omega arith)) in
-      below-more h (last (2 ^ s * 2 ^ s) k n) (last-below (2 ^ s * 2 ^ s) big k n)
-
-  pub spread : (k n : ℕ) → let b = 2 ^ (c + s + s) in let x = word b (last (2 ^ s * 2 ^ s) k n) in let m = word b (replicate k (2 ^ s - 1)) in
-      bitAnd (x / 2 ^ s) m + bitAnd x m * 2 ^ w ≡ word (2 ^ w) (last (2 ^ s) (k + k) n)
-  spread k n =
-      let b = 2 ^ (c + s + s) in
-      let q = 2 ^ s in
-      let ds = last (q * q) k n in
-      let m = word b (replicate k (q - 1)) in
-      let high : bitAnd (word b ds / q) m ≡ word b (map (λ (d : ℕ). d / q % q) ds) = rw length-last at (field c s s ds (inside k n)) in
-      let low : bitAnd (word b ds) m ≡ word b (map (λ (d : ℕ). d % q) ds) = rw length-last at (masked (c + s) s ds (inside k n)) in
-      let square : b ≡ 2 ^ w * 2 ^ w = ap (λ (x : ℕ). 2 ^ x) e ∙ pow-add 2 w w in
-      rw (high, low, square, halved (2 ^ w) (λ (d : ℕ). d / q % q) (λ (d : ℕ). d % q) ds) (ap (word (2 ^ w)) (digits-halves q k n (pow-pos s)))
-
-  -- in a word of W bits, with the mask m
-  pub spread-in : (W k n a m : ℕ) → a ≡ word (2 ^ (c + s + s)) (last (2 ^ s * 2 ^ s) k n) → m ≡ word (2 ^ (c + s + s)) (replicate k (2 ^ s - 1)) → m * 2 ^ w < 2 ^ W →
-      bitAnd (a / 2 ^ s) m + bitAnd a m * 2 ^ w % 2 ^ W ≡ word (2 ^ w) (last (2 ^ s) (k + k) n)
-  spread-in W k n a m i j h =
-      let l : bitAnd a m * 2 ^ w % 2 ^ W ≡ bitAnd a m * 2 ^ w = mod-eq-of-lt (lt-of-le-of-lt (mul-le-mul-right (2 ^ w) (and-le-r a m)) h) in
-      rw (l, i, j) (spread k n)
-
-pub spread-fits : (W w s a m : ℕ) → m + m * 2 ^ w < 2 ^ W → bitAnd (a / 2 ^ s) m + bitAnd a m * 2 ^ w % 2 ^ W < 2 ^ W
-spread-fits W w s a m h =
-    lt-of-le-of-lt (add-le-add (and-le-r (a / 2 ^ s) m) (le-trans (mod-le (bitAnd a m * 2 ^ w) (2 ^ W)) (mul-le-mul-right (2 ^ w) (and-le-r a m)))) h
 
 -- the first step: both halves of a number of 2 * s bits, in lanes of b
 pub spread-first : (b q n : ℕ) → 0 < q → n < q * q → n / q + n % q * b ≡ word b (last q 2 n)

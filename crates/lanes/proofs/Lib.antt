@@ -5,3 +5,4 @@ pub mod Tails
 pub mod Wider
 pub mod Bits
 pub mod Examples
+pub mod Halves

@@ -1,4 +1,4 @@
-// Hex and binary digits side by side in a word, one a byte, the first in the lowest: four or eight of them at once, and no loop.
+// Hex, octal and binary digits side by side in a word, one a byte, the first in the lowest: four or eight of them at once, and no loop.
 ghost use mathlib.Core.List.{map};
 ghost use mathlib.Core.Path.{_≡_};
 ghost use Prim.Native.Nat.{_<_, _≤_};
@@ -14,7 +14,7 @@ fn spread4(n: u32) -> u32
     ensures { λ r. ⌜ r ≡ word 256 (last 16 4 n) ⌝ }
 {
     let bytes = (n >> 8) + ((n % 256) << 16);
-    ((bytes >> 4) & 0x000f_000f) + ((bytes & 0x000f_000f) << 8)
+    ((bytes >> 4) | (bytes << 8)) & 0x0f0f_0f0f
 }
 
 // The four bytes of n in the other order.
@@ -40,7 +40,7 @@ fn spread8(n: u64) -> u64
     ensures { λ r. ⌜ r ≡ word 256 (last 16 8 n) ⌝ }
 {
     let bytes = wide_bytes(n);
-    ((bytes >> 4) & 0x000f_000f_000f_000f) + ((bytes & 0x000f_000f_000f_000f) << 8)
+    ((bytes >> 4) | (bytes << 8)) & 0x0f0f_0f0f_0f0f_0f0f
 }
 
 // The text of eight hex digits that lie one a byte. Six more carry a digit from ten on into the next bit of its lane: there the step from `:` (58) to the letter is added.
@@ -87,10 +87,44 @@ fn spread_bits(n: u64) -> u64
     (n >> 7) + ((n * 0x0100_8040_2010_0804) & 0x0101_0101_0101_0100)
 }
 
-// Their text.
+// The text of eight digits that lie one a byte and are below ten: `0` more in each.
+fn shown(x: u64) -> u64
+    requires { ⌜ Below 10 (bytesOf 8 x) ⌝ }
+    ensures { λ r. ⌜ bytesOf 8 r ≡ map ascii (bytesOf 8 x) ⌝ }
+{
+    x + 0x3030_3030_3030_3030
+}
+
+// The text of the eight binary digits of n.
 pub fn eight_bits(n: u64) -> u64
     requires { ⌜ n < 256 ⌝ }
     ensures { λ r. ⌜ bytesOf 8 r ≡ lastText ascii 2 8 n ⌝ }
 {
-    spread_bits(n) + 0x3030_3030_3030_3030
+    shown(spread_bits(n))
+}
+
+// Eight octal digits of n, four and four.
+fn octal_halves(n: u64) -> u64
+    requires { ⌜ n < 16777216 ⌝ }
+    ensures { λ r. ⌜ r ≡ word 4294967296 (last 4096 2 n) ⌝ }
+{
+    (n >> 12) + ((n % 4096) << 32)
+}
+
+// One by one: twice the halves of each lane go into lanes of half the size.
+fn spread_octal(n: u64) -> u64
+    requires { ⌜ n < 16777216 ⌝ }
+    ensures { λ r. ⌜ r ≡ word 256 (last 8 8 n) ⌝ }
+{
+    let halves = octal_halves(n);
+    let pairs = ((halves >> 6) | (halves << 16)) & 0x003f_003f_003f_003f;
+    ((pairs >> 3) | (pairs << 8)) & 0x0707_0707_0707_0707
+}
+
+// The text of the eight octal digits of n.
+pub fn eight_octal(n: u64) -> u64
+    requires { ⌜ n < 16777216 ⌝ }
+    ensures { λ r. ⌜ bytesOf 8 r ≡ lastText ascii 8 8 n ⌝ }
+{
+    shown(spread_octal(n))
 }

@@ -12,7 +12,7 @@ use Rattle.digits.specs.Digits.{digits}
 use Rattle.digits.proofs.Digits.{digits-length-le}
 use Rattle.digits.proofs.Text.{length-text}
 use Rattle.radix.specs.Radix.{lower, upper, radix, digitBits, roundedUp}
-use Rattle.radix.proofs.Shift.{pow-pow, above-one}
+use Rattle.bit_eights.proofs.Eights.{pow-pow, above-one}
 use Rattle.radix.proofs.Rounded.{length-rounded}
 
 module _ (format : ℕ) where

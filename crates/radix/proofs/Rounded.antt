@@ -14,7 +14,7 @@ use Rattle.digits.specs.Digits.{digits}
 use Rattle.digits.proofs.Digits.{digits-small, digits-some, digits-length-le, digits-length-gt}
 use Rattle.digits.proofs.Length.{below-length, from-length}
 use Rattle.radix.specs.Radix.{roundedUp}
-use Rattle.radix.proofs.Shift.{pow-pow, above-one}
+use Rattle.bit_eights.proofs.Eights.{pow-pow, above-one}
 
 two : 1 < 2
 two = lit< tt

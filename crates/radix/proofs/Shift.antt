@@ -3,8 +3,8 @@
 -- Assumes nothing.
 use mathlib.Core.Path.{_≡_, sym, ap, _∙_}
 use mathlib.Core.List.{[], _∷_, _++_, map}
-use Prim.Native.Nat.{ℕ, zero, suc, _+_, _*_, _-_, _/_, _%_, _≤_, _<_, _^_}
-use native.Mathlib.Nat.{pow-zero, pow-suc, mul-zero, mul-suc, one-mul, div-one, mod-eq-of-lt, mod-lt, lt-of-lt-of-le, div-lt-iff-lt-mul, div-eq-of-lt, div-lt-self}
+use Prim.Native.Nat.{ℕ, suc, _+_, _*_, _-_, _/_, _%_, _≤_, _<_, _^_}
+use native.Mathlib.Nat.{pow-zero, pow-suc, one-mul, div-one, mod-eq-of-lt, mod-lt, lt-of-lt-of-le, div-lt-iff-lt-mul, div-eq-of-lt, div-lt-self}
 use native.Mathlib.Decide.{decLe}
 use native.Mathlib.Omega.{arith}
 use lib.Bits.{bitAnd, and-mask}
@@ -14,16 +14,10 @@ use Rattle.digits.specs.Text.{text, lastText}
 use Rattle.digits.proofs.Digits.{digits-length}
 use Rattle.digits.proofs.Last.{digits-last}
 use Rattle.digits.proofs.Text.{text-split, text-small}
-
-pub pow-pow : (m k : ℕ) → (2 ^ m) ^ k ≡ 2 ^ (m * k)
-pow-pow m zero = rw (pow-zero, mul-zero, pow-zero)
-pow-pow m (suc k) = rw (pow-suc (2 ^ m) k, mul-suc, pow-add 2 (m * k) m, pow-pow m k)
+use Rattle.bit_eights.proofs.Eights.{above-one}
 
 first-power : (b : ℕ) → b ^ 1 ≡ b
 first-power b = pow-suc b 0 ∙ rw (pow-zero, one-mul)
-
-pub above-one : {s : ℕ} → 0 < s → 1 < 2 ^ s
-above-one h = pow-lt h
 
 -- ---- the last digit
 

@@ -1,9 +1,9 @@
 -- A table of the digits in order gives the alphabet's text, in any base that it has the digits of.
 -- Assumes nothing.
-use mathlib.Core.Path.{_≡_, sym, _∙_}
+use mathlib.Core.Path.{_≡_}
 use Prim.Native.Nat.{ℕ, _≤_, _<_}
 use native.Mathlib.Nat.{lt-of-lt-of-le}
-use lib.Dec.{lit<, lit≤}
+use borrow.Author.Tests.{lt-ltb}
 use Rattle.digits.specs.Digits.{digits}
 use Rattle.digits.specs.Tables.{tabulate}
 use Rattle.digits.specs.Text.{ascii, text}
@@ -20,6 +20,6 @@ module _ (α β : ℕ → ℕ) (b : ℕ) (same : (d : ℕ) → d < b → α d �
 pub table-text : (k : ℕ) (α : ℕ → ℕ) (b n : ℕ) → 1 < b → b ≤ k → text (tableByte (tabulate k α 0)) b n ≡ text α b n
 table-text k α b n big h = text-same (tableByte (tabulate k α 0)) α b (λ d l. tabulated k α d (lt-of-lt-of-le l h)) big n
 
--- where the digits are only 0 and 1, the alphabet is that of decimal
-pub binary-text : (n : ℕ) → text ascii 2 n ≡ text lower 2 n
-binary-text n = sym (table-text 2 ascii 2 n (lit< tt) (lit≤ tt)) ∙ table-text 2 lower 2 n (lit< tt) (lit≤ tt)
+-- where no digit is a letter, the alphabet is that of decimal
+pub plain-text : (b n : ℕ) → 1 < b → b ≤ 10 → text ascii b n ≡ text lower b n
+plain-text b n big h = text-same ascii lower b (λ d l. rw (lt-ltb d 10 (lt-of-lt-of-le l h))) big n

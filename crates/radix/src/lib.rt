@@ -1,6 +1,6 @@
 // Binary, octal, lower and upper hex, and their lengths before a byte is written.
 // Carries over radix_integer! of fmt/num.rs: one writer over the bits of a digit and the table of digits, right to left, two digits a turn.
-// Hex, and binary of more than four digits, have faster ones of their own: the crates hex and binary.
+// Hex, and binary and octal of more than four digits, have faster ones: the crates hex and bit_eights.
 ghost use mathlib.Core.Path.{_≡_};
 ghost use Prim.Native.Nat.{_+_, _-_, _%_, _^_, _<_, _≤_};
 ghost use lib.ListN.{length};
@@ -69,6 +69,14 @@ fn write_digits(shift: u32, n: u64, buf: &mut [u8], end: usize) -> usize
     fmt_inner(&digit_table(), shift, n, buf, end)
 }
 
+// How many digits n has in base 2 to the shift: the bits that it needs over the shift, rounded up.
+fn digit_count(shift: u32, n: u64) -> usize
+    requires { ⌜ (0 < shift) × (shift ≤ 4) ⌝ }
+    ensures { λ r. ⌜ r ≡ length (digits (2 ^ shift) n) ⌝ }
+{
+    ((digits::bit_length(n) + (shift - 1)) / shift) as usize
+}
+
 // Hex, with letters from `letter` on.
 fn write_hex(letter: u8, n: u64, buf: &mut [u8], end: usize) -> usize
     requires { ⌜ (57 < letter) × (letter ≤ 250) × (length (text (digitByte letter) 16 n) ≤ end) × (end ≤ length (now buf)) ⌝ }
@@ -77,22 +85,40 @@ fn write_hex(letter: u8, n: u64, buf: &mut [u8], end: usize) -> usize
     end - hex::write(letter, n, hex::count(n), buf, end)
 }
 
+// Binary and octal of n, whose len digits are counted: a few by the table, more of them in words.
+pub fn counted_binary(n: u64, len: usize, buf: &mut [u8], end: usize) -> usize
+    requires { ⌜ (len ≡ length (text lower 2 n)) × (len ≤ end) × (end ≤ length (now buf)) ⌝ }
+    ensures { λ r. ⌜ (r ≡ end - length (text lower 2 n)) × (now (buf .exit) ≡ ended (now (buf .entry)) end (text lower 2 n)) ⌝ }
+{
+    if len <= 4 {
+        return write_digits(1, n, buf, end);
+    }
+    bit_eights::binary(n, len, buf, end)
+}
+
+pub fn counted_octal(n: u64, len: usize, buf: &mut [u8], end: usize) -> usize
+    requires { ⌜ (len ≡ length (text lower 8 n)) × (len ≤ end) × (end ≤ length (now buf)) ⌝ }
+    ensures { λ r. ⌜ (r ≡ end - length (text lower 8 n)) × (now (buf .exit) ≡ ended (now (buf .entry)) end (text lower 8 n)) ⌝ }
+{
+    if len <= 4 {
+        return write_digits(3, n, buf, end);
+    }
+    bit_eights::octal(n, len, buf, end)
+}
+
 // The four texts of a pattern, each just before the index end. The answer is where it starts.
 pub fn write_binary(n: u64, buf: &mut [u8], end: usize) -> usize
     requires { ⌜ (length (text lower 2 n) ≤ end) × (end ≤ length (now buf)) ⌝ }
     ensures { λ r. ⌜ (r ≡ end - length (text lower 2 n)) × (now (buf .exit) ≡ ended (now (buf .entry)) end (text lower 2 n)) ⌝ }
 {
-    if n < 16 {
-        return write_digits(1, n, buf, end);
-    }
-    binary::write(n, buf, end)
+    counted_binary(n, digit_count(1, n), buf, end)
 }
 
 pub fn write_octal(n: u64, buf: &mut [u8], end: usize) -> usize
     requires { ⌜ (length (text lower 8 n) ≤ end) × (end ≤ length (now buf)) ⌝ }
     ensures { λ r. ⌜ (r ≡ end - length (text lower 8 n)) × (now (buf .exit) ≡ ended (now (buf .entry)) end (text lower 8 n)) ⌝ }
 {
-    write_digits(3, n, buf, end)
+    counted_octal(n, digit_count(3, n), buf, end)
 }
 
 pub fn write_lower_hex(n: u64, buf: &mut [u8], end: usize) -> usize
@@ -124,14 +150,6 @@ pub fn write_before(format: u32, n: u64, buf: &mut [u8], end: usize) -> usize
         return write_lower_hex(n, buf, end);
     }
     write_upper_hex(n, buf, end)
-}
-
-// How many digits n has in base 2 to the shift: the bits that it needs over the shift, rounded up.
-fn digit_count(shift: u32, n: u64) -> usize
-    requires { ⌜ (0 < shift) × (shift ≤ 4) ⌝ }
-    ensures { λ r. ⌜ r ≡ length (digits (2 ^ shift) n) ⌝ }
-{
-    ((digits::bit_length(n) + (shift - 1)) / shift) as usize
 }
 
 // How long the text of n is by the format code, before a byte of it is written.

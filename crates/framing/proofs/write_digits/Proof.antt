@@ -32,14 +32,15 @@ part-ended t l p a e n i h P =
     let q : p ≡ t = P .leaves ∙ rw (m, le-leb (length t) (length t) (le-refl (length t))) (fills t (take (e - a) (drop a l)) m) in
     rw (q, b, d)
 
--- digits that are known by another name have the room that was asked for
-room : (s : tie.Start) {t : List ℕ} → plain (s .args .format) (s .args .n) ≡ t → (length t ≤ s .args .end) × (s .args .end ≤ length (s .args .out .now))
-room s {t} e =
-    let j : length (plain (s .args .format) (s .args .n)) ≡ length t = ap length e in
-    (omega (arith, s .pre .0, s .pre .1), s .pre .2)
+-- digits that are known by another name are as many, and have the room that was asked for
+room : (s : tie.Start) {t : List ℕ} → plain (s .args .format) (s .args .n) ≡ t → (s .args .count ≡ length t) × (s .args .count ≤ s .args .end) × (s .args .end ≤ length (s .args .out .now))
+room s e = (s .pre .0 ∙ ap length e, s .pre .1, s .pre .2)
 
 write-before-requires : tie.Need-write-before-requires
-write-before-requires c κs = let s = c .before .before .before in room s (plain-decimal (s .args .format) (s .args .n) (c .before .if1 .taken))
+write-before-requires c κs =
+    let s = c .before .before .before in
+    let r = room s (plain-decimal (s .args .format) (s .args .n) (c .before .if1 .taken)) in
+    (omega (arith, r .0, r .1), r .2)
 
 same-length : tie.Need-same-length
 same-length c = search needs
@@ -47,23 +48,23 @@ same-length c = search needs
 returns : tie.Need-returns
 returns c = let s = c .before .before .before .before .before .before in rw (plain-decimal (s .args .format) (s .args .n) (c .before .before .before .before .if1 .taken)) (c .before .before .write-before .ensures)
 
-write-binary-requires : tie.Need-write-binary-requires
-write-binary-requires c κs = let s = c .before .before .before .before in room s (ap (λ (f : ℕ). plain f (s .args .n)) (c .before .if2 .taken))
+counted-binary-requires : tie.Need-counted-binary-requires
+counted-binary-requires c κs = let s = c .before .before .before .before in room s (ap (λ (f : ℕ). plain f (s .args .n)) (c .before .if2 .taken))
 
 same-length-2 : tie.Need-same-length-2
 same-length-2 c = search needs
 
 returns-2 : tie.Need-returns-2
-returns-2 c = rw (c .before .before .before .before .if2 .taken) (c .before .before .write-binary .ensures)
+returns-2 c = rw (c .before .before .before .before .if2 .taken) (c .before .before .counted-binary .ensures)
 
-write-octal-requires : tie.Need-write-octal-requires
-write-octal-requires c κs = let s = c .before .before .before .before .before in room s (ap (λ (f : ℕ). plain f (s .args .n)) (c .before .if3 .taken))
+counted-octal-requires : tie.Need-counted-octal-requires
+counted-octal-requires c κs = let s = c .before .before .before .before .before in room s (ap (λ (f : ℕ). plain f (s .args .n)) (c .before .if3 .taken))
 
 same-length-3 : tie.Need-same-length-3
 same-length-3 c = search needs
 
 returns-3 : tie.Need-returns-3
-returns-3 c = rw (c .before .before .before .before .if3 .taken) (c .before .before .write-octal .ensures)
+returns-3 c = rw (c .before .before .before .before .if3 .taken) (c .before .before .counted-octal .ensures)
 
 sub-at : tie.Need-sub-at
 sub-at c = c .before .before .before .before .pre .1
@@ -97,10 +98,10 @@ write-digits-spec =
     write-before-requires
     same-length
     returns
-    write-binary-requires
+    counted-binary-requires
     same-length-2
     returns-2
-    write-octal-requires
+    counted-octal-requires
     same-length-3
     returns-3
     sub-at

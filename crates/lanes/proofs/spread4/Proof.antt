@@ -6,7 +6,8 @@ use native.Mathlib.Omega.{arith}
 use lib.Dec.{lit<}
 use Rattle.digits.specs.Digits.{last}
 use Rattle.lanes.specs.Lanes.{word}
-use Rattle.lanes.proofs.Lanes.{spread-first, spread-in, spread-fits}
+use Rattle.lanes.proofs.Lanes.{spread-first}
+use Rattle.lanes.proofs.Halves.{halves-in}
 use borrow.Author.Needs.{needs}
 use Rattle.lanes.proofs.spread4.Statement.{statement}
 use Rattle.lanes.proofs.spread4.Tie as tie
@@ -22,12 +23,9 @@ bytes n h =
 add-bytes : tie.Need-add-bytes
 add-bytes c = search needs
 
-add-result : tie.Need-add-result
-add-result c = record { fits = spread-fits 32 8 4 (Bytes (c .args .n)) 0x000f_000f (lit< tt) }
-
 returns : tie.Need-returns
 unfolding word
-returns c = spread-in 8 4 8 (lit< tt) refl 32 2 (c .args .n) (Bytes (c .args .n)) 0x000f_000f (bytes (c .args .n) (c .pre)) refl (lit< tt)
+returns c = halves-in 0 4 8 refl 32 2 (c .args .n) (Bytes (c .args .n)) 0x0f0f_0f0f (lit< tt) (bytes (c .args .n) (c .pre)) refl (lit< tt)
 
 pub spread4-spec : {M : Type 1} → statement M
-spread4-spec = tie.close (tie.spec add-bytes add-result returns)
+spread4-spec = tie.close (tie.spec add-bytes returns)

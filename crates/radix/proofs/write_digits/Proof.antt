@@ -4,7 +4,7 @@ use Prim.Native.Nat.{_^_}
 use lib.Pow.{pow-mono}
 use Rattle.digits.specs.Text.{text}
 use Rattle.radix.specs.Radix.{lower, tableByte}
-use Rattle.radix.proofs.Shift.{above-one}
+use Rattle.bit_eights.proofs.Eights.{above-one}
 use Rattle.radix.proofs.Table.{table-text}
 use borrow.Author.Needs.{needs}
 use Rattle.radix.proofs.write_digits.Statement.{statement}
