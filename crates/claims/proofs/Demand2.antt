@@ -23,8 +23,11 @@ use Rattle.reader.specs.Answers.{Answers}
 use Rattle.reader.proofs.Outcomes.{read-plain, read-back, read-only, read-refused}
 use Rattle.reading.specs.Formats.{plain}
 use Rattle.scaling.specs.Coefficient.{precisionOf}
+use Rattle.scaling.specs.declared.Precision.{Precision}
+use Rattle.scaling.specs.declared.Precision.the-variants.{None}
 use Rattle.writing.specs.Text.{minus, body, textOf}
-use Rattle.writing.specs.Promise.{house}
+use Rattle.writing.specs.Promise.{house, Unframed}
+use Rattle.writing.specs.declared.Options.{Options}
 use Rattle.writing.proofs.Cases.{framed-bare, house-unframed}
 use Rattle.claims.specs.Demand2.{OfDigits, OfText, OfLengths, OfSizes, RoundTrip, OfReading}
 
@@ -34,9 +37,14 @@ of-digits = record { are = λ b n h. canonical b h n; only = λ b n ds h C. uniq
 -- ---- the text at the house default
 
 -- nothing stands around it but a minus
-bare-text : (bits : ℕ) (z : ℤ) (format : ℕ) → textOf bits z format house ≡ signOf (minus format z) false ++ body format bits (precisionOf (house .precision)) z
+unframed-text : (bits : ℕ) (z : ℤ) (format : ℕ) (o : Options) (p : Precision) → Unframed o p → textOf bits z format o ≡ signOf (minus format z) false ++ body format bits (precisionOf p) z
 unfolding textOf
-bare-text bits z format = framed-bare house (minus format z) format (body format bits (precisionOf (house .precision)) z) house-unframed
+unframed-text bits z format o p U =
+    framed-bare o (minus format z) format (body format bits (precisionOf (o .precision)) z) U
+    ∙ ap (λ (q : Precision). signOf (minus format z) false ++ body format bits (precisionOf q) z) (U .precision)
+
+bare-text : (bits : ℕ) (z : ℤ) (format : ℕ) → textOf bits z format house ≡ signOf (minus format z) false ++ body format bits (precisionOf None) z
+bare-text bits z format = unframed-text bits z format house None house-unframed
 
 -- it is the plain text that the reader's definitions speak of
 pub plain-text : (bits format : ℕ) (z : ℤ) → format ≤ 6 → textOf bits z format house ≡ plain bits format z
@@ -60,7 +68,7 @@ of-text = record {
   decimal-is = λ bits n. bare-text bits (pos n) 0;
   negative-is = λ bits k. bare-text bits (negsuc k) 0;
   radix-is = radix-is;
-  exponent-is = λ bits z. (plain-text bits 5 z (omega arith), plain-text bits 6 z (omega arith));
+  exponent-is = λ bits z o p U. (unframed-text bits z 5 o p U, unframed-text bits z 6 o p U);
 }
   where
     radix-is : (bits format : ℕ) (z : ℤ) → 1 ≤ format → format ≤ 4 → textOf bits z format house ≡ radix format (pattern bits z)

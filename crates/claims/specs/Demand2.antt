@@ -3,21 +3,22 @@ use mathlib.Core.Bool.{Bool, true, false}
 use mathlib.Core.List.{List, [], _∷_}
 use mathlib.Core.Path.{_≡_}
 use Prim.Native.Nat.{ℕ, suc, _+_, _≤_, _<_, max}
-use lib.IntN.{ℤ, pos, negsuc}
+use lib.IntN.{ℤ, pos, negsuc, natAbs}
 use lib.ListN.{length}
 use Rattle.digits.specs.Digits.{Canonical, digits}
 use Rattle.digits.specs.Text.{decimal}
-use Rattle.kinds.specs.Kinds.{known, inType, pattern, Greatest}
+use Rattle.kinds.specs.Kinds.{known, inType, pattern, negative, Greatest}
 use Rattle.outcomes.specs.Outcomes.{numberOf}
 use Rattle.outcomes.specs.declared.Outcome.{Outcome}
 use Rattle.outcomes.specs.declared.Outcome.the-variants as outcome
 use Rattle.padding.specs.Padding.{signOf, prefixOf}
 use Rattle.radix.specs.Radix.{radix, digitBits, roundedUp}
 use Rattle.reader.specs.Answers.{Answers}
-use Rattle.reading.specs.Formats.{exponentText}
 use Rattle.scaling.specs.Coefficient.{precisionOf}
-use Rattle.writing.specs.Text.{minus, body, textOf}
-use Rattle.writing.specs.Promise.{house}
+use Rattle.scaling.specs.declared.Precision.{Precision}
+use Rattle.scientific.specs.Layout.{expText}
+use Rattle.writing.specs.Text.{minus, body, bare, textOf}
+use Rattle.writing.specs.Promise.{house, Unframed}
 use Rattle.writing.specs.declared.Options.{Options}
 
 -- Digits: they stand for the number, zero is the one digit 0, none leads with a zero else; and nothing else is so.
@@ -25,7 +26,7 @@ pub record OfDigits : Type 0 where
   pub are : (b n : ℕ) → 1 < b → Canonical b n (digits b n)
   pub only : (b n : ℕ) (ds : List ℕ) → 1 < b → Canonical b n ds → ds ≡ digits b n
 
--- The text at the house default, by the format.
+-- The text at the house default, by the format; in exponent form with a precision also.
 pub record OfText : Type 0 where
   pub zero : (bits : ℕ) → textOf bits (pos 0) 0 house ≡ 48 ∷ []
   pub decimal-is : (bits n : ℕ) → textOf bits (pos n) 0 house ≡ decimal n
@@ -33,7 +34,9 @@ pub record OfText : Type 0 where
   pub negative-is : (bits k : ℕ) → textOf bits (negsuc k) 0 house ≡ 45 ∷ decimal (suc k)
   -- binary, octal and hex show the two's complement pattern at the type's own bits
   pub radix-is : (bits format : ℕ) (z : ℤ) → 1 ≤ format → format ≤ 4 → textOf bits z format house ≡ radix format (pattern bits z)
-  pub exponent-is : (bits : ℕ) (z : ℤ) → (textOf bits z 5 house ≡ exponentText 101 z) × (textOf bits z 6 house ≡ exponentText 69 z)
+  -- exponent form, with any precision that is given or none: demand 3 speaks of `expText`
+  pub exponent-is : (bits : ℕ) (z : ℤ) (o : Options) (p : Precision) → Unframed o p
+      → (textOf bits z 5 o ≡ bare (negative z) (expText 101 (precisionOf p) (natAbs z))) × (textOf bits z 6 o ≡ bare (negative z) (expText 69 (precisionOf p) (natAbs z)))
 
 -- Lengths: binary has as many digits as the bits the pattern needs, octal and hex a third and a quarter of them, rounded up.
 pub record OfLengths : Type 0 where
