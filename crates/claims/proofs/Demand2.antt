@@ -1,10 +1,10 @@
 -- Demand 2: the rules of the text, and the round trip from the reader's laws. Assumes nothing.
 use mathlib.Core.Bool.{Bool, true, false}
 use mathlib.Core.List.{List, _++_}
-use mathlib.Core.Path.{_≡_, refl, sym, ap, _∙_, subst}
+use mathlib.Core.Path.{_≡_, refl, sym, ap, ap₂, _∙_, subst}
 use Prim.Native.Nat.{ℕ, zero, suc, _+_, _-_, _≤_, max}
 use native.Mathlib.Omega.{arith}
-use lib.Dec.{eqb}
+use lib.Dec.{eqb, lit≤}
 use lib.IntN.{ℤ, pos, negsuc}
 use lib.ListN.{length}
 use Rattle.digits.specs.Digits.{upTo, bare, digits}
@@ -14,14 +14,14 @@ use Rattle.kinds.specs.Kinds.{known, inType, pattern}
 use Rattle.kinds.proofs.Sizes.{greatest-unsigned, greatest-signed}
 use Rattle.padding.specs.Padding.{signOf, prefixOf, beforeOf, zerosOf, behindOf}
 use Rattle.padding.proofs.Padding.{padded-length}
-use Rattle.outcomes.specs.Outcomes.{valueOf}
+use Rattle.outcomes.specs.Outcomes.{numberOf, valueOf}
 use Rattle.outcomes.specs.declared.Outcome.{Outcome}
 use Rattle.outcomes.specs.declared.Outcome.the-variants as outcome
 use Rattle.radix.specs.Radix.{radix}
 use Rattle.radix.proofs.Lengths.{radix-length}
-use Rattle.reader.specs.Answers.{Answers}
-use Rattle.reader.proofs.Outcomes.{read-plain, read-back, read-only, read-refused}
-use Rattle.reading.specs.Formats.{plain}
+use Rattle.reader.specs.Answers.{Judges, Passes, Answers}
+use Rattle.reader.proofs.Outcomes.{passed, one-answer, read-plain, read-back, read-only, read-refused}
+use Rattle.reading.specs.Formats.{form, plain}
 use Rattle.scaling.specs.Coefficient.{precisionOf}
 use Rattle.scaling.specs.declared.Precision.{Precision}
 use Rattle.scaling.specs.declared.Precision.the-variants.{None}
@@ -29,7 +29,7 @@ use Rattle.writing.specs.Text.{minus, body, textOf}
 use Rattle.writing.specs.Promise.{house, Unframed}
 use Rattle.writing.specs.declared.Options.{Options}
 use Rattle.writing.proofs.Cases.{framed-bare, house-unframed}
-use Rattle.claims.specs.Demand2.{OfDigits, OfText, OfLengths, OfSizes, RoundTrip, OfReading}
+use Rattle.claims.specs.Demand2.{OfDigits, OfText, OfLengths, OfSizes, RoundTrip, Asked, Refuses, OfReading}
 
 pub of-digits : OfDigits
 of-digits = record { are = λ b n h. canonical b h n; only = λ b n ds h C. unique b h n ds C }
@@ -140,5 +140,75 @@ trip sgn bits format k h = record {
     done : {u v : ℕ} → outcome.Done u ≡ outcome.Done v → u ≡ v
     done e = ap valueOf e
 
+-- ---- the refusals
+
+-- the outcome that has the number n and returns v
+outcomeOf : ℕ → ℕ → Outcome
+outcomeOf zero v = outcome.Done v
+outcomeOf (suc zero) v = outcome.Empty
+outcomeOf (suc (suc zero)) v = outcome.Shape v
+outcomeOf (suc (suc (suc zero))) v = outcome.NotCanonical
+outcomeOf (suc (suc (suc (suc zero)))) v = outcome.Range
+outcomeOf (suc (suc (suc (suc (suc zero))))) v = outcome.TypeRefused
+outcomeOf (suc (suc (suc (suc (suc (suc k)))))) v = outcome.OptionsRefused
+
+numbered : (r : Outcome) → r ≡ outcomeOf (numberOf r) (valueOf r)
+unfolding outcomeOf
+numbered (outcome.Done v) = refl
+numbered outcome.Empty = refl
+numbered (outcome.Shape k) = refl
+numbered outcome.NotCanonical = refl
+numbered outcome.Range = refl
+numbered outcome.TypeRefused = refl
+numbered outcome.OptionsRefused = refl
+
+nothing : (r : Outcome) → 1 ≤ numberOf r → (numberOf r ≡ 2 → ⊥) → valueOf r ≡ 0
+nothing (outcome.Done v) h f = absurd (omega arith)
+nothing outcome.Empty h f = refl
+nothing (outcome.Shape k) h f = absurd (f refl)
+nothing outcome.NotCanonical h f = refl
+nothing outcome.Range h f = refl
+nothing outcome.TypeRefused h f = refl
+nothing outcome.OptionsRefused h f = refl
+
+numbers : (r : Outcome) → numberOf r ≤ 6
+numbers (outcome.Done v) = lit≤ tt
+numbers outcome.Empty = lit≤ tt
+numbers (outcome.Shape k) = lit≤ tt
+numbers outcome.NotCanonical = lit≤ tt
+numbers outcome.Range = lit≤ tt
+numbers outcome.TypeRefused = lit≤ tt
+numbers outcome.OptionsRefused = lit≤ tt
+
+module _ (sgn : Bool) (bits format : ℕ) (t : List ℕ) (r : Outcome) (A : Answers sgn bits format t r) where
+  -- by its number and value, the outcome is known; and whatever answers is the outcome
+  told : (n v : ℕ) → numberOf r ≡ n → valueOf r ≡ v → Answers sgn bits format t (outcomeOf n v)
+  told n v e f = subst (λ (s : Outcome). Answers sgn bits format t s) (numbered r ∙ ap₂ outcomeOf e f) A
+
+  is : (s : Outcome) → Answers sgn bits format t s → r ≡ s
+  is s B = one-answer sgn bits format t r s A B
+
+  judged : (s : Outcome) → Asked bits format t → Judges (form sgn bits format) sgn bits t s → r ≡ s
+  judged s a j = is s (passed sgn bits format t s (a .type) (a .code) (a .some) j)
+
+  asked : (s : Outcome) → Passes sgn bits format t s → Asked bits format t
+  asked s P = record { type = P .type; code = P .format; some = P .some }
+
+  refuses : Refuses sgn bits format t (numberOf r) (valueOf r)
+  unfolding outcomeOf
+  refuses = record {
+    type = ((λ e. told 5 (valueOf r) e refl), (λ h. ap numberOf (is outcome.TypeRefused h)));
+    options = ((λ e. told 6 (valueOf r) e refl), (λ h. ap numberOf (is outcome.OptionsRefused h)));
+    empty = ((λ e. told 1 (valueOf r) e refl), (λ h. ap numberOf (is outcome.Empty h)));
+    shape = λ k. (
+      (λ e. let P = told 2 k (e .0) (e .1) in (asked (outcome.Shape k) P, P .judges)),
+      (λ h. let e = judged (outcome.Shape k) (h .0) (h .1) in (ap numberOf e, ap valueOf e)),
+    );
+    not-canonical = ((λ e. let P = told 3 (valueOf r) e refl in (asked outcome.NotCanonical P, P .judges)), (λ h. ap numberOf (judged outcome.NotCanonical (h .0) (h .1))));
+    range = ((λ e. let P = told 4 (valueOf r) e refl in (asked outcome.Range P, P .judges)), (λ h. ap numberOf (judged outcome.Range (h .0) (h .1))));
+    nothing = nothing r;
+    numbers = numbers r;
+  }
+
 pub of-reading : OfReading
-of-reading = record { round-trip = trip }
+of-reading = record { round-trip = trip; refuses = refuses }

@@ -1,6 +1,7 @@
 -- Demand 2: what the text is, by document 01's rules; and that plain texts are read back, and they alone. Over every type, format and value.
 use mathlib.Core.Bool.{Bool, true, false}
 use mathlib.Core.List.{List, [], _∷_}
+use mathlib.Core.Logic.{_↔_}
 use mathlib.Core.Path.{_≡_}
 use Prim.Native.Nat.{ℕ, suc, _+_, _≤_, _<_, max}
 use lib.IntN.{ℤ, pos, negsuc, natAbs}
@@ -8,12 +9,15 @@ use lib.ListN.{length}
 use Rattle.digits.specs.Digits.{Canonical, digits}
 use Rattle.digits.specs.Text.{decimal}
 use Rattle.kinds.specs.Kinds.{known, inType, pattern, negative, Greatest}
-use Rattle.outcomes.specs.Outcomes.{numberOf}
+use Rattle.outcomes.specs.Outcomes.{numberOf, valueOf}
 use Rattle.outcomes.specs.declared.Outcome.{Outcome}
 use Rattle.outcomes.specs.declared.Outcome.the-variants as outcome
 use Rattle.padding.specs.Padding.{signOf, prefixOf}
 use Rattle.radix.specs.Radix.{radix, digitBits, roundedUp}
 use Rattle.reader.specs.Answers.{Answers}
+use Rattle.reading.specs.Form.{Place}
+use Rattle.reading.specs.Formats.{form}
+use Rattle.reading.specs.Judged.{NotCanonical, OutOfRange}
 use Rattle.scaling.specs.Coefficient.{precisionOf}
 use Rattle.scaling.specs.declared.Precision.{Precision}
 use Rattle.scientific.specs.Layout.{expText}
@@ -69,5 +73,25 @@ pub record RoundTrip (sgn : Bool) (bits format : ℕ) : Type 0 where
   -- two values with one text are one
   pub apart : (y z : ℤ) → inType sgn bits y ≡ true → inType sgn bits z ≡ true → textOf bits y format house ≡ textOf bits z format house → pattern 64 y ≡ pattern 64 z
 
+-- The checks before that of the shape pass: the type is known, the format is known, and the text is not empty.
+pub record Asked (bits format : ℕ) (t : List ℕ) : Type 0 where
+  pub type : known bits ≡ true
+  pub code : format ≤ 6
+  pub some : 0 < length t
+
+-- n is the number of the answer to reading t, and v what it returns: each refusal exactly when document 01 says, in its order 5, 6, 1, 2, 3, 4.
+pub record Refuses (sgn : Bool) (bits format : ℕ) (t : List ℕ) (n v : ℕ) : Type 0 where
+  pub type : (n ≡ 5) ↔ (known bits ≡ false)
+  pub options : (n ≡ 6) ↔ ((known bits ≡ true) × (6 < format))
+  pub empty : (n ≡ 1) ↔ ((known bits ≡ true) × (format ≤ 6) × (t ≡ []))
+  -- SHAPE returns the place
+  pub shape : (k : ℕ) → ((n ≡ 2) × (v ≡ k)) ↔ (Asked bits format t × Place (form sgn bits format .shape) t k)
+  pub not-canonical : (n ≡ 3) ↔ (Asked bits format t × NotCanonical (form sgn bits format) t)
+  pub range : (n ≡ 4) ↔ (Asked bits format t × OutOfRange (form sgn bits format) sgn bits t)
+  -- every other refusal returns 0, and there is none beyond these
+  pub nothing : 1 ≤ n → (n ≡ 2 → ⊥) → v ≡ 0
+  pub numbers : n ≤ 6
+
 pub record OfReading : Type 0 where
   pub round-trip : (sgn : Bool) (bits format : ℕ) → known bits ≡ true → format ≤ 6 → RoundTrip sgn bits format
+  pub refuses : (sgn : Bool) (bits format : ℕ) (t : List ℕ) (r : Outcome) → Answers sgn bits format t r → Refuses sgn bits format t (numberOf r) (valueOf r)
