@@ -1,19 +1,23 @@
 -- Demand 2: the rules of the text, and the round trip from the reader's laws. Assumes nothing.
-use mathlib.Core.Bool.{Bool, true, false}
-use mathlib.Core.List.{List, _++_}
+use mathlib.Core.Bool.{Bool, true, false, false≢true}
+use mathlib.Core.List.{List, [], _∷_, _++_, append-assoc, append-nil}
+use mathlib.Core.Logic.{_⊎_, inl, inr}
+use mathlib.Core.Option.{Option}
 use mathlib.Core.Path.{_≡_, refl, sym, ap, ap₂, _∙_, subst}
-use Prim.Native.Nat.{ℕ, zero, suc, _+_, _-_, _≤_, max}
+use Prim.Native.Nat.{ℕ, zero, suc, _+_, _-_, _≤_, _<_, max}
+use native.Mathlib.Nat.{add-assoc}
 use native.Mathlib.Omega.{arith}
-use lib.Dec.{eqb, lit≤}
+use borrow.Author.Tests.{ne-eqb, le-leb, lt-leb}
+use lib.Dec.{eqb, leb, lit≤}
 use lib.IntN.{ℤ, pos, negsuc}
-use lib.ListN.{length}
+use lib.ListN.{length, replicate, length-append}
 use Rattle.digits.specs.Digits.{upTo, bare, digits}
 use Rattle.digits.specs.Text.{text, signed}
 use Rattle.digits.proofs.Digits.{canonical, unique}
 use Rattle.kinds.specs.Kinds.{known, inType, pattern}
 use Rattle.kinds.proofs.Sizes.{greatest-unsigned, greatest-signed}
-use Rattle.padding.specs.Padding.{signOf, prefixOf, beforeOf, zerosOf, behindOf}
-use Rattle.padding.proofs.Padding.{padded-length}
+use Rattle.padding.specs.Padding.{signOf, prefixOf, beforeOf, zerosOf, behindOf, Planned, padded}
+use Rattle.padding.proofs.Padding.{plan-none, plan-zeros, plan-left, plan-centre, plan-right, no-prefix-low, no-prefix-high, padded-is, padded-length}
 use Rattle.outcomes.specs.Outcomes.{numberOf, valueOf}
 use Rattle.outcomes.specs.declared.Outcome.{Outcome}
 use Rattle.outcomes.specs.declared.Outcome.the-variants as outcome
@@ -25,11 +29,11 @@ use Rattle.reading.specs.Formats.{form, plain}
 use Rattle.scaling.specs.Coefficient.{precisionOf}
 use Rattle.scaling.specs.declared.Precision.{Precision}
 use Rattle.scaling.specs.declared.Precision.the-variants.{None}
-use Rattle.writing.specs.Text.{minus, body, textOf}
+use Rattle.writing.specs.Text.{minus, body, framed, textOf}
 use Rattle.writing.specs.Promise.{house, Unframed}
 use Rattle.writing.specs.declared.Options.{Options}
 use Rattle.writing.proofs.Cases.{framed-bare, house-unframed}
-use Rattle.claims.specs.Demand2.{OfDigits, OfText, OfLengths, OfSizes, RoundTrip, Asked, Refuses, OfReading}
+use Rattle.claims.specs.Demand2.{OfDigits, OfText, lacking, Padded, OfOptions, OfLengths, OfSizes, RoundTrip, Asked, Refuses, OfReading}
 
 pub of-digits : OfDigits
 of-digits = record { are = λ b n h. canonical b h n; only = λ b n ds h C. unique b h n ds C }
@@ -79,12 +83,79 @@ of-text = record {
     radix-is bits (suc (suc (suc (suc zero)))) z h k = bare-text bits z 4
     radix-is bits (suc (suc (suc (suc (suc m))))) z h k = absurd (omega arith)
 
+-- ---- the text with options
+
+-- by the plan of the padding
+module _ (o : Options) (sign prefix digits : List ℕ) where
+  abbrev whole : List ℕ
+  whole = padded (o .zero) (o .fill) (o .align) (o .width) sign prefix digits
+
+  -- what is lacking, to the sum of the lengths and to the length of the whole
+  lacks : o .width - (length sign + (length prefix + length digits)) ≡ lacking o ((sign ++ prefix) ++ digits)
+  lacks = ap (λ (n : ℕ). o .width - n) (sym (simp (length-append, add-assoc)))
+
+  pub padded-so : {before zeros behind : ℕ} → Planned (o .zero) (o .align) (lacking o ((sign ++ prefix) ++ digits)) before zeros behind
+      → whole ≡ (replicate before (o .fill) ++ (sign ++ (prefix ++ replicate zeros 48))) ++ (digits ++ replicate behind (o .fill))
+  padded-so {before} {zeros} {behind} P =
+      padded-is (o .zero) (o .fill) (o .align) (o .width) sign prefix digits (subst (λ (k : ℕ). Planned (o .zero) (o .align) k before zeros behind) (sym lacks) P)
+
+  pub padded-clauses : Padded o (sign ++ prefix) digits whole
+  padded-clauses =
+      let k = lacking o ((sign ++ prefix) ++ digits) in
+      record {
+        wide = λ h. padded-so (plan-none (o .zero) (o .align) k (omega arith)) ∙ simp (append-assoc, append-nil);
+        zeros = λ e. padded-so (plan-zeros (o .zero) (o .align) k e) ∙ simp (append-assoc, append-nil);
+        left = λ e a. padded-so (plan-left (o .zero) (o .align) k e a) ∙ simp (append-assoc, append-nil);
+        right = λ e a. padded-so (plan-right (o .zero) (o .align) k e (λ b. omega arith) (λ b. omega arith)) ∙ simp (append-assoc, append-nil);
+        unset = λ e a. padded-so (plan-right (o .zero) (o .align) k e (λ b. omega arith) (λ b. omega arith)) ∙ simp (append-assoc, append-nil);
+        centre = λ e a. padded-so (plan-centre (o .zero) (o .align) k e a) ∙ simp (append-assoc, append-nil);
+      }
+
+-- whether a minus is shown, by the form
+no-minus : (format : ℕ) (z : ℤ) → 1 ≤ format → format ≤ 4 → minus format z ≡ false
+no-minus format z h k = rw (ne-eqb format 0 (λ e. omega arith), le-leb format 4 k)
+
+pub of-options : OfOptions
+unfolding textOf
+of-options = record {
+  padding = λ bits z format o. padded-clauses o (signOf (minus format z) (o .plus)) (prefixOf (o .alternate) format) (body format bits (precisionOf (o .precision)) z);
+  minus-sign = minus-sign;
+  plus-sign = λ format n. let e = positive format n in (rw e refl, rw e refl);
+  pattern-sign = λ format z h k. let e = no-minus format z h k in (rw e refl, rw e refl);
+  binary = refl;
+  octal = refl;
+  hex = (refl, refl);
+  no-prefix = no-prefix;
+  no-precision = λ bits z format o p h. ap (framed o (minus format z) format) (body-any format bits (precisionOf p) (precisionOf (o .precision)) z h);
+}
+  where
+    minus-sign : (format k : ℕ) (plus : Bool) → (format ≡ 0) ⊎ (4 < format) → signOf (minus format (negsuc k)) plus ≡ 45 ∷ []
+    minus-sign format k plus (inl e) = rw e refl
+    minus-sign format k plus (inr h) = rw (ne-eqb format 0 (λ e. omega arith), lt-leb format 4 h) refl
+
+    positive : (format n : ℕ) → minus format (pos n) ≡ false
+    positive format n = go (eqb format 0) (leb format 4) refl refl
+      where
+        go : (a b : Bool) → eqb format 0 ≡ a → leb format 4 ≡ b → minus format (pos n) ≡ false
+        go true b e f = rw e refl
+        go false true e f = rw (e, f) refl
+        go false false e f = rw (e, f) refl
+
+    no-prefix : (alternate : Bool) (format : ℕ) → (alternate ≡ false) ⊎ ((format ≡ 0) ⊎ (4 < format)) → prefixOf alternate format ≡ []
+    no-prefix false format h = refl
+    no-prefix true format (inl e) = absurd (false≢true (sym e))
+    no-prefix true format (inr (inl e)) = no-prefix-low format (omega arith)
+    no-prefix true format (inr (inr h)) = no-prefix-high format h
+
+    body-any : (format bits : ℕ) (p q : Option ℕ) (z : ℤ) → format ≤ 4 → body format bits p z ≡ body format bits q z
+    body-any format bits p q z h = rw (le-leb format 4 h) refl
+
 -- ---- lengths
 
 -- what is lacking to the width stands in one place or two
-lacking : (pad : Bool) (align k : ℕ) → beforeOf pad align k + (zerosOf pad k + behindOf pad align k) ≡ k
-lacking true align k = omega arith
-lacking false align k = go (eqb align 1) (eqb align 2) refl refl
+lacking-whole : (pad : Bool) (align k : ℕ) → beforeOf pad align k + (zerosOf pad k + behindOf pad align k) ≡ k
+lacking-whole true align k = omega arith
+lacking-whole false align k = go (eqb align 1) (eqb align 2) refl refl
   where
     go : (a b : Bool) → eqb align 1 ≡ a → eqb align 2 ≡ b → beforeOf false align k + (zerosOf false k + behindOf false align k) ≡ k
     go true b e f = rw e (omega arith)
@@ -101,7 +172,7 @@ of-lengths = record {
       let digits = body format bits (precisionOf (o .precision)) z in
       let k = o .width - (length sign + (length prefix + length digits)) in
       let n = padded-length (o .zero) (o .fill) (o .align) (o .width) sign prefix digits {before = beforeOf (o .zero) (o .align) k} {zeros = zerosOf (o .zero) k} {behind = behindOf (o .zero) (o .align) k} (record { before-is = refl; zeros-is = refl; behind-is = refl }) in
-      wide (o .width) (length sign + (length prefix + length digits)) _ (omega (arith, lacking (o .zero) (o .align) k));
+      wide (o .width) (length sign + (length prefix + length digits)) _ (omega (arith, lacking-whole (o .zero) (o .align) k));
 }
   where
     wide : (w m n : ℕ) → n ≡ (w - m) + m → n ≡ max w m

@@ -1,11 +1,11 @@
 -- Demand 2: what the text is, by document 01's rules; and that plain texts are read back, and they alone. Over every type, format and value.
 use mathlib.Core.Bool.{Bool, true, false}
-use mathlib.Core.List.{List, [], _∷_}
-use mathlib.Core.Logic.{_↔_}
+use mathlib.Core.List.{List, [], _∷_, _++_}
+use mathlib.Core.Logic.{_↔_, _⊎_}
 use mathlib.Core.Path.{_≡_}
-use Prim.Native.Nat.{ℕ, suc, _+_, _≤_, _<_, max}
+use Prim.Native.Nat.{ℕ, suc, _+_, _-_, _/_, _≤_, _<_, max}
 use lib.IntN.{ℤ, pos, negsuc, natAbs}
-use lib.ListN.{length}
+use lib.ListN.{length, replicate}
 use Rattle.digits.specs.Digits.{Canonical, digits}
 use Rattle.digits.specs.Text.{decimal}
 use Rattle.kinds.specs.Kinds.{known, inType, pattern, negative, Greatest}
@@ -41,6 +41,44 @@ pub record OfText : Type 0 where
   -- exponent form, with any precision that is given or none: demand 3 speaks of `expText`
   pub exponent-is : (bits : ℕ) (z : ℤ) (o : Options) (p : Precision) → Unframed o p
       → (textOf bits z 5 o ≡ bare (negative z) (expText 101 (precisionOf p) (natAbs z))) × (textOf bits z 6 o ≡ bare (negative z) (expText 69 (precisionOf p) (natAbs z)))
+
+-- What s lacks to the width.
+abbrev pub lacking : Options → List ℕ → ℕ
+lacking o s = o .width - length s
+
+-- t is the text with padding, where front is sign and prefix.
+pub record Padded (o : Options) (front digits t : List ℕ) : Type 0 where
+  -- only if it is shorter than the width
+  pub wide : o .width ≤ length (front ++ digits) → t ≡ front ++ digits
+  -- under the zero flag, zeros between sign and prefix in front and the digits behind; fill and alignment are ignored
+  pub zeros : o .zero ≡ true → t ≡ front ++ (replicate (lacking o (front ++ digits)) 48 ++ digits)
+  -- otherwise fill: left, right, unset meaning right
+  pub left : o .zero ≡ false → o .align ≡ 1 → t ≡ (front ++ digits) ++ replicate (lacking o (front ++ digits)) (o .fill)
+  pub right : o .zero ≡ false → o .align ≡ 3 → t ≡ replicate (lacking o (front ++ digits)) (o .fill) ++ (front ++ digits)
+  pub unset : o .zero ≡ false → o .align ≡ 0 → t ≡ replicate (lacking o (front ++ digits)) (o .fill) ++ (front ++ digits)
+  -- centre: half in front, rounded down, and the extra byte behind
+  pub centre : o .zero ≡ false → o .align ≡ 2
+      → t ≡ replicate (lacking o (front ++ digits) / 2) (o .fill) ++ ((front ++ digits) ++ replicate (lacking o (front ++ digits) - lacking o (front ++ digits) / 2) (o .fill))
+
+abbrev pub withPrecision : Options → Precision → Options
+withPrecision o p = record { plus = o .plus; alternate = o .alternate; zero = o .zero; fill = o .fill; align = o .align; width = o .width; precision = p }
+
+-- The text with options: sign and prefix, the digits, padding.
+pub record OfOptions : Type 0 where
+  pub padding : (bits : ℕ) (z : ℤ) (format : ℕ) (o : Options)
+      → Padded o (signOf (minus format z) (o .plus) ++ prefixOf (o .alternate) format) (body format bits (precisionOf (o .precision)) z) (textOf bits z format o)
+  -- `-` for a negative in decimal and exponent forms
+  pub minus-sign : (format k : ℕ) (plus : Bool) → (format ≡ 0) ⊎ (4 < format) → signOf (minus format (negsuc k)) plus ≡ 45 ∷ []
+  -- else `+` under the plus flag; binary, octal and hex count as nonnegative
+  pub plus-sign : (format n : ℕ) → (signOf (minus format (pos n)) true ≡ 43 ∷ []) × (signOf (minus format (pos n)) false ≡ [])
+  pub pattern-sign : (format : ℕ) (z : ℤ) → 1 ≤ format → format ≤ 4 → (signOf (minus format z) true ≡ 43 ∷ []) × (signOf (minus format z) false ≡ [])
+  -- the alternate flag puts `0b`, `0o`, `0x` for codes 1 to 4 and does nothing for others
+  pub binary : prefixOf true 1 ≡ 48 ∷ 98 ∷ []
+  pub octal : prefixOf true 2 ≡ 48 ∷ 111 ∷ []
+  pub hex : (prefixOf true 3 ≡ 48 ∷ 120 ∷ []) × (prefixOf true 4 ≡ 48 ∷ 120 ∷ [])
+  pub no-prefix : (alternate : Bool) (format : ℕ) → (alternate ≡ false) ⊎ ((format ≡ 0) ⊎ (4 < format)) → prefixOf alternate format ≡ []
+  -- precision is ignored outside the exponent forms
+  pub no-precision : (bits : ℕ) (z : ℤ) (format : ℕ) (o : Options) (p : Precision) → format ≤ 4 → textOf bits z format (withPrecision o p) ≡ textOf bits z format o
 
 -- Lengths: binary has as many digits as the bits the pattern needs, octal and hex a third and a quarter of them, rounded up.
 pub record OfLengths : Type 0 where
