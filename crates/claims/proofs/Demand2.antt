@@ -15,7 +15,8 @@ use Rattle.digits.specs.Digits.{upTo, bare, digits}
 use Rattle.digits.specs.Text.{text, signed}
 use Rattle.digits.proofs.Digits.{canonical, unique}
 use Rattle.kinds.specs.Kinds.{known, inType, pattern}
-use Rattle.kinds.proofs.Sizes.{greatest-unsigned, greatest-signed}
+use Rattle.kinds.proofs.Patterns.{one-pattern}
+use Rattle.kinds.proofs.Sizes.{known-range, greatest-unsigned, greatest-signed}
 use Rattle.padding.specs.Padding.{signOf, prefixOf, beforeOf, zerosOf, behindOf, Planned, padded}
 use Rattle.padding.proofs.Padding.{plan-none, plan-zeros, plan-left, plan-centre, plan-right, no-prefix-low, no-prefix-high, padded-is, padded-length}
 use Rattle.outcomes.specs.Outcomes.{numberOf, valueOf}
@@ -199,7 +200,8 @@ trip sgn bits format k h = record {
   answered = answered;
   only = λ t v A. let z = read-only sgn bits format k h t v A in (z .0, z .1, z .2 ∙ sym (plain-text bits format (z .0) h), z .3);
   refused = λ t r f A. read-refused sgn bits format k h t r (λ z i e. f z i (e ∙ sym (plain-text bits format z h))) A;
-  apart = λ y z i j e. done (sym (back y (outcome.Done (pattern 64 z)) i (subst (λ (t : List ℕ). Answers sgn bits format t (outcome.Done (pattern 64 z))) (sym e) (answered z j))));
+  apart = λ y z i j e. let b = known-range bits k in one-pattern 64 bits sgn y z (lit≤ tt) (b .1) i j
+      (done (sym (back y (outcome.Done (pattern 64 z)) i (subst (λ (t : List ℕ). Answers sgn bits format t (outcome.Done (pattern 64 z))) (sym e) (answered z j)))));
 }
   where
     back : (z : ℤ) (r : Outcome) → inType sgn bits z ≡ true → Answers sgn bits format (textOf bits z format house) r → r ≡ outcome.Done (pattern 64 z)

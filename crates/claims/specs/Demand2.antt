@@ -109,7 +109,7 @@ pub record RoundTrip (sgn : Bool) (bits format : ℕ) : Type 0 where
   -- a text that no value of the type has is refused
   pub refused : (t : List ℕ) (r : Outcome) → ((z : ℤ) → inType sgn bits z ≡ true → t ≡ textOf bits z format house → ⊥) → Answers sgn bits format t r → numberOf r ≡ 0 → ⊥
   -- two values with one text are one
-  pub apart : (y z : ℤ) → inType sgn bits y ≡ true → inType sgn bits z ≡ true → textOf bits y format house ≡ textOf bits z format house → pattern 64 y ≡ pattern 64 z
+  pub apart : (y z : ℤ) → inType sgn bits y ≡ true → inType sgn bits z ≡ true → textOf bits y format house ≡ textOf bits z format house → y ≡ z
 
 -- The checks before that of the shape pass: the type is known, the format is known, and the text is not empty.
 pub record Asked (bits format : ℕ) (t : List ℕ) : Type 0 where
