@@ -4,12 +4,16 @@ use mathlib.Core.List.{List, [], _∷_}
 use mathlib.Core.Logic.{_⊎_, inl, inr}
 use mathlib.Core.Path.{_≡_, refl, sym, _∙_}
 use Prim.Native.Nat.{ℕ, suc, _-_, _≤_, _<_}
+use native.Mathlib.Decide.{decLe}
 use native.Mathlib.Omega.{arith}
 use borrow.Author.Tests.{leb-true, leb-false, le-leb, lt-leb}
-use lib.Dec.{leb}
-use lib.IntN.{ℤ}
+use lib.Dec.{leb, lit<}
+use lib.IntN.{ℤ, pos, negsuc}
 use lib.ListN.{length}
-use Rattle.buffer.specs.AtEnd.{begun}
+use Rattle.buffer.specs.AtEnd.{ended, begun}
+use Rattle.decimal.specs.Ends.{EndPromise}
+use Rattle.digits.specs.Text.{ascii, decimal, signed}
+use Rattle.digits.proofs.Text.{text-some}
 use Rattle.kinds.specs.Kinds.{known, inType, meaning}
 use Rattle.part_answers.specs.Answers as parting
 use Rattle.part_answers.specs.Answers.{firstOut, checked, wrote, wroteNumber, wroteValue}
@@ -112,6 +116,7 @@ pub of-writing : OfWriting
 of-writing = record {
   core = λ signed bits p format o l r l′ W. kept W (of-core signed bits p format o l);
   by-type = λ bits z format o l r l′ W. kept W (of-type bits z format o l);
+  at-edge = λ signed bits p format o l n v l′ A. rw (A .numbered, A .returns, A .leaves) (of-core signed bits p format o l);
 }
 
 -- ---- parts
@@ -165,7 +170,28 @@ of-parts = record {
 -- ---- the end entries
 
 pub of-ends : OfEnds
+unfolding signed
 of-ends = record {
-  refused = λ t l r l′ P h. let e = lt-leb (length t) (length l) h in (P .answers ∙ rw e refl, P .leaves ∙ rw e refl);
-  done = λ t l r l′ P s h. let e = le-leb (length t) (length l) h in let a : r ≡ length l - length t = P .answers ∙ rw e refl in (omega arith, P .leaves ∙ rw e refl);
+  refused = refused;
+  done = done;
+  some = some;
+  some-unsigned = some-unsigned;
+  told = λ t l r l′ P s. ((λ e. go t l r l′ P s e (decLe (length t) (length l))), (λ h. refused t l r l′ P h .0));
 }
+  where
+    refused : (t l : List ℕ) (r : ℕ) (l′ : List ℕ) → EndPromise t l r l′ → length l < length t → (r ≡ length l) × (l′ ≡ l)
+    refused t l r l′ P h = let e = lt-leb (length t) (length l) h in (P .answers ∙ rw e refl, P .leaves ∙ rw e refl)
+
+    done : (t l : List ℕ) (r : ℕ) (l′ : List ℕ) → EndPromise t l r l′ → length t ≤ length l → (r ≡ length l - length t) × (l′ ≡ ended l (length l) t)
+    done t l r l′ P h = let e = le-leb (length t) (length l) h in (P .answers ∙ rw e refl, P .leaves ∙ rw e refl)
+
+    some-unsigned : (n : ℕ) → 0 < length (decimal n)
+    some-unsigned n = text-some ascii 10 (lit< tt) n
+
+    some : (z : ℤ) → 0 < length (signed z)
+    some (pos n) = some-unsigned n
+    some (negsuc k) = omega arith
+
+    go : (t l : List ℕ) (r : ℕ) (l′ : List ℕ) → EndPromise t l r l′ → 0 < length t → r ≡ length l → Dec (length t ≤ length l) → length l < length t
+    go t l r l′ P s e (yes h) = absurd (omega (arith, done t l r l′ P h .0))
+    go t l r l′ P s e (no h) = omega arith

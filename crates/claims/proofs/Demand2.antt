@@ -1,19 +1,21 @@
 -- Demand 2: the rules of the text, and the round trip from the reader's laws. Assumes nothing.
-use mathlib.Core.Bool.{Bool, true, false, false≢true}
+use mathlib.Core.Bool.{Bool, true, false, false≢true, cond}
 use mathlib.Core.List.{List, [], _∷_, _++_, append-assoc, append-nil}
 use mathlib.Core.Logic.{_⊎_, inl, inr}
 use mathlib.Core.Option.{Option}
 use mathlib.Core.Path.{_≡_, refl, sym, ap, ap₂, _∙_, subst}
-use Prim.Native.Nat.{ℕ, zero, suc, _+_, _-_, _≤_, _<_, max}
+use Prim.Native.Nat.{ℕ, zero, suc, _+_, _-_, _^_, _≤_, _<_, max}
 use native.Mathlib.Nat.{add-assoc}
 use native.Mathlib.Omega.{arith}
 use borrow.Author.Tests.{ne-eqb, le-leb, lt-leb}
+use lib.Count.{leadingZeros}
 use lib.Dec.{eqb, leb, lit≤}
 use lib.IntN.{ℤ, pos, negsuc}
 use lib.ListN.{length, replicate, length-append}
 use Rattle.digits.specs.Digits.{upTo, bare, digits}
 use Rattle.digits.specs.Text.{text, signed}
 use Rattle.digits.proofs.Digits.{canonical, unique}
+use Rattle.digits.proofs.Length.{bits-leading}
 use Rattle.kinds.specs.Kinds.{known, inType, pattern}
 use Rattle.kinds.proofs.Patterns.{one-pattern}
 use Rattle.kinds.proofs.Sizes.{known-range, greatest-unsigned, greatest-signed}
@@ -163,9 +165,15 @@ lacking-whole false align k = go (eqb align 1) (eqb align 2) refl refl
     go false true e f = rw (e, f) (omega arith)
     go false false e f = rw (e, f) (omega arith)
 
+bits-needed : (word n : ℕ) → n < 2 ^ word → length (digits 2 n) ≡ cond (eqb n 0) 1 (word - leadingZeros word n)
+unfolding digits
+bits-needed word zero h = refl
+bits-needed word (suc n) h = rw (ne-eqb (suc n) 0 (λ e. omega arith)) (sym (bits-leading word (suc n) (omega arith) h))
+
 pub of-lengths : OfLengths
 unfolding textOf
 of-lengths = record {
+  bits = bits-needed;
   lengths = λ format n. radix-length format n;
   padded = λ bits z format o.
       let sign = signOf (minus format z) (o .plus) in
@@ -216,7 +224,7 @@ trip sgn bits format k h = record {
 -- ---- the refusals
 
 -- the outcome that has the number n and returns v
-outcomeOf : ℕ → ℕ → Outcome
+abbrev outcomeOf : ℕ → ℕ → Outcome
 outcomeOf zero v = outcome.Done v
 outcomeOf (suc zero) v = outcome.Empty
 outcomeOf (suc (suc zero)) v = outcome.Shape v
@@ -226,7 +234,6 @@ outcomeOf (suc (suc (suc (suc (suc zero))))) v = outcome.TypeRefused
 outcomeOf (suc (suc (suc (suc (suc (suc k)))))) v = outcome.OptionsRefused
 
 numbered : (r : Outcome) → r ≡ outcomeOf (numberOf r) (valueOf r)
-unfolding outcomeOf
 numbered (outcome.Done v) = refl
 numbered outcome.Empty = refl
 numbered (outcome.Shape k) = refl
@@ -268,7 +275,6 @@ module _ (sgn : Bool) (bits format : ℕ) (t : List ℕ) (r : Outcome) (A : Answ
   asked s P = record { type = P .type; code = P .format; some = P .some }
 
   refuses : Refuses sgn bits format t (numberOf r) (valueOf r)
-  unfolding outcomeOf
   refuses = record {
     type = ((λ e. told 5 (valueOf r) e refl), (λ h. ap numberOf (is outcome.TypeRefused h)));
     options = ((λ e. told 6 (valueOf r) e refl), (λ h. ap numberOf (is outcome.OptionsRefused h)));
@@ -284,4 +290,10 @@ module _ (sgn : Bool) (bits format : ℕ) (t : List ℕ) (r : Outcome) (A : Answ
   }
 
 pub of-reading : OfReading
-of-reading = record { round-trip = trip; refuses = refuses }
+of-reading = record {
+  round-trip = trip;
+  refuses = refuses;
+  edge-back = λ sgn bits format k h z n v i R. let e = trip sgn bits format k h .back z (R .outcome) i (R .is) in (R .numbered ∙ ap numberOf e, R .returns ∙ ap valueOf e);
+  edge-only = λ sgn bits format k h t v R. trip sgn bits format k h .only t v (told sgn bits format t (R .outcome) (R .is) 0 v (sym (R .numbered)) (sym (R .returns)));
+  edge-refuses = λ sgn bits format t n v R. rw (R .numbered, R .returns) (refuses sgn bits format t (R .outcome) (R .is));
+}

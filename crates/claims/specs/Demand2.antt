@@ -1,13 +1,16 @@
 -- Demand 2: what the text is, by document 01's rules; and that plain texts are read back, and they alone. Over every type, format and value.
-use mathlib.Core.Bool.{Bool, true, false}
+use mathlib.Core.Bool.{Bool, true, false, cond}
 use mathlib.Core.List.{List, [], _∷_, _++_}
 use mathlib.Core.Logic.{_↔_, _⊎_}
 use mathlib.Core.Path.{_≡_}
-use Prim.Native.Nat.{ℕ, suc, _+_, _-_, _/_, _≤_, _<_, max}
+use Prim.Native.Nat.{ℕ, suc, _+_, _-_, _/_, _^_, _≤_, _<_, max}
+use lib.Count.{leadingZeros}
+use lib.Dec.{eqb}
 use lib.IntN.{ℤ, pos, negsuc, natAbs}
 use lib.ListN.{length, replicate}
 use Rattle.digits.specs.Digits.{Canonical, digits}
 use Rattle.digits.specs.Text.{decimal}
+use Rattle.edge.specs.Edge as edge
 use Rattle.kinds.specs.Kinds.{known, inType, pattern, negative, Greatest}
 use Rattle.outcomes.specs.Outcomes.{numberOf, valueOf}
 use Rattle.outcomes.specs.declared.Outcome.{Outcome}
@@ -82,6 +85,8 @@ pub record OfOptions : Type 0 where
 
 -- Lengths: binary has as many digits as the bits the pattern needs, octal and hex a third and a quarter of them, rounded up.
 pub record OfLengths : Type 0 where
+  -- the bits it needs: a word's less its leading zeros, but 1 for zero
+  pub bits : (word n : ℕ) → n < 2 ^ word → length (digits 2 n) ≡ cond (eqb n 0) 1 (word - leadingZeros word n)
   pub lengths : (format n : ℕ) → length (radix format n) ≡ roundedUp (length (digits 2 n)) (digitBits format)
   -- with options: the width, or what stands there without it if that is longer
   pub padded : (bits : ℕ) (z : ℤ) (format : ℕ) (o : Options)
@@ -133,3 +138,9 @@ pub record Refuses (sgn : Bool) (bits format : ℕ) (t : List ℕ) (n v : ℕ) :
 pub record OfReading : Type 0 where
   pub round-trip : (sgn : Bool) (bits format : ℕ) → known bits ≡ true → format ≤ 6 → RoundTrip sgn bits format
   pub refuses : (sgn : Bool) (bits format : ℕ) (t : List ℕ) (r : Outcome) → Answers sgn bits format t r → Refuses sgn bits format t (numberOf r) (valueOf r)
+  -- the same of the C edge, whose answer is the two numbers
+  pub edge-back : (sgn : Bool) (bits format : ℕ) → known bits ≡ true → format ≤ 6 → (z : ℤ) (n v : ℕ) → inType sgn bits z ≡ true
+      → edge.Reads sgn bits format (textOf bits z format house) n v → (n ≡ 0) × (v ≡ pattern 64 z)
+  pub edge-only : (sgn : Bool) (bits format : ℕ) → known bits ≡ true → format ≤ 6 → (t : List ℕ) (v : ℕ)
+      → edge.Reads sgn bits format t 0 v → (z : ℤ) × (inType sgn bits z ≡ true) × (t ≡ textOf bits z format house) × (v ≡ pattern 64 z)
+  pub edge-refuses : (sgn : Bool) (bits format : ℕ) (t : List ℕ) (n v : ℕ) → edge.Reads sgn bits format t n v → Refuses sgn bits format t n v
