@@ -12,8 +12,8 @@ use lib.Count.{leadingZeros}
 use lib.Dec.{eqb, leb, lit≤}
 use lib.IntN.{ℤ, pos, negsuc}
 use lib.ListN.{length, replicate, length-append}
-use Rattle.digits.specs.Digits.{upTo, bare, digits}
-use Rattle.digits.specs.Text.{text, signed}
+use Rattle.digits.specs.Digits.{upTo, bare, digits, last}
+use Rattle.digits.specs.Text.{text, lastText, signed}
 use Rattle.digits.proofs.Digits.{canonical, unique}
 use Rattle.digits.proofs.Length.{bits-leading}
 use Rattle.kinds.specs.Kinds.{known, inType, pattern}
@@ -32,6 +32,9 @@ use Rattle.reading.specs.Formats.{form, plain}
 use Rattle.scaling.specs.Coefficient.{precisionOf}
 use Rattle.scaling.specs.declared.Precision.{Precision}
 use Rattle.scaling.specs.declared.Precision.the-variants.{None}
+use Rattle.scientific.specs.Layout.{point, layout, expText}
+use Rattle.scientific.specs.Sci.{exponentOf, trimmed, short, sci}
+use Rattle.scientific.proofs.Steps.{long-text, zero-text}
 use Rattle.writing.specs.Text.{minus, body, framed, textOf}
 use Rattle.writing.specs.Promise.{house, Unframed}
 use Rattle.writing.specs.declared.Options.{Options}
@@ -69,13 +72,16 @@ plain-text bits (suc (suc (suc (suc (suc (suc zero)))))) (negsuc k) h = bare-tex
 plain-text bits (suc (suc (suc (suc (suc (suc (suc m))))))) z h = absurd (omega arith)
 
 pub of-text : OfText
-unfolding text digits bare upTo plain
+unfolding expText layout point sci short trimmed exponentOf text lastText last digits bare upTo
 of-text = record {
   zero = λ bits. bare-text bits (pos 0) 0;
   decimal-is = λ bits n. bare-text bits (pos n) 0;
   negative-is = λ bits k. bare-text bits (negsuc k) 0;
   radix-is = radix-is;
   exponent-is = λ bits z o p U. (unframed-text bits z 5 o p U, unframed-text bits z 6 o p U);
+  exponent-long = λ letter n p h. long-text letter n p h;
+  exponent-zero = λ letter p. zero-text letter p;
+  exponent-none = λ letter. refl;
 }
   where
     radix-is : (bits format : ℕ) (z : ℤ) → 1 ≤ format → format ≤ 4 → textOf bits z format house ≡ radix format (pattern bits z)

@@ -2,6 +2,7 @@
 use mathlib.Core.Bool.{Bool, true, false, cond}
 use mathlib.Core.List.{List, [], _∷_, _++_}
 use mathlib.Core.Logic.{_↔_, _⊎_}
+use mathlib.Core.Option.{none, some}
 use mathlib.Core.Path.{_≡_}
 use Prim.Native.Nat.{ℕ, suc, _+_, _-_, _/_, _^_, _≤_, _<_, max}
 use lib.Count.{leadingZeros}
@@ -9,7 +10,7 @@ use lib.Dec.{eqb}
 use lib.IntN.{ℤ, pos, negsuc, natAbs}
 use lib.ListN.{length, replicate}
 use Rattle.digits.specs.Digits.{Canonical, digits}
-use Rattle.digits.specs.Text.{decimal}
+use Rattle.digits.specs.Text.{ascii, lastText, decimal}
 use Rattle.edge.specs.Edge as edge
 use Rattle.kinds.specs.Kinds.{known, inType, pattern, negative, Greatest}
 use Rattle.outcomes.specs.Outcomes.{numberOf, valueOf}
@@ -23,7 +24,8 @@ use Rattle.reading.specs.Formats.{form}
 use Rattle.reading.specs.Judged.{NotCanonical, OutOfRange}
 use Rattle.scaling.specs.Coefficient.{precisionOf}
 use Rattle.scaling.specs.declared.Precision.{Precision}
-use Rattle.scientific.specs.Layout.{expText}
+use Rattle.scientific.specs.Layout.{point, expText}
+use Rattle.scientific.specs.Sci.{exponentOf}
 use Rattle.writing.specs.Text.{minus, body, bare, textOf}
 use Rattle.writing.specs.Promise.{house, Unframed}
 use Rattle.writing.specs.declared.Options.{Options}
@@ -44,6 +46,12 @@ pub record OfText : Type 0 where
   -- exponent form, with any precision that is given or none: demand 3 speaks of `expText`
   pub exponent-is : (bits : ℕ) (z : ℤ) (o : Options) (p : Precision) → Unframed o p
       → (textOf bits z 5 o ≡ bare (negative z) (expText 101 (precisionOf p) (natAbs z))) × (textOf bits z 6 o ≡ bare (negative z) (expText 69 (precisionOf p) (natAbs z)))
+  -- if p is at least e, the digits of n and then p - e zeros, exponent e
+  pub exponent-long : (letter n p : ℕ) → exponentOf n ≤ p → expText letter (some p) n
+      ≡ (ascii (n / 10 ^ exponentOf n) ∷ point p ++ lastText ascii 10 (exponentOf n) n) ++ (replicate (p - exponentOf n) 48 ++ letter ∷ decimal (exponentOf n))
+  -- zero has p fraction zeros and exponent 0; without precision it is `0e0`
+  pub exponent-zero : (letter p : ℕ) → expText letter (some p) 0 ≡ 48 ∷ point p ++ (replicate p 48 ++ letter ∷ 48 ∷ [])
+  pub exponent-none : (letter : ℕ) → expText letter none 0 ≡ 48 ∷ letter ∷ 48 ∷ []
 
 -- What s lacks to the width.
 abbrev pub lacking : Options → List ℕ → ℕ
