@@ -43,7 +43,7 @@ pub record OfText : Type 0 where
   pub negative-is : (bits k : ℕ) → textOf bits (negsuc k) 0 house ≡ 45 ∷ decimal (suc k)
   -- binary, octal and hex show the two's complement pattern at the type's own bits
   pub radix-is : (bits format : ℕ) (z : ℤ) → 1 ≤ format → format ≤ 4 → textOf bits z format house ≡ radix format (pattern bits z)
-  -- exponent form, with any precision that is given or none: demand 3 speaks of `expText`
+  -- exponent form, with precision p or none; a negative is `-` and the text of its magnitude. Demand 3 speaks of `expText`
   pub exponent-is : (bits : ℕ) (z : ℤ) (o : Options) (p : Precision) → Unframed o p
       → (textOf bits z 5 o ≡ bare (negative z) (expText 101 (precisionOf p) (natAbs z))) × (textOf bits z 6 o ≡ bare (negative z) (expText 69 (precisionOf p) (natAbs z)))
   -- if p is at least e, the digits of n and then p - e zeros, exponent e
@@ -93,7 +93,7 @@ pub record OfOptions : Type 0 where
 
 -- Lengths: binary has as many digits as the bits the pattern needs, octal and hex a third and a quarter of them, rounded up.
 pub record OfLengths : Type 0 where
-  -- the bits it needs: a word's less its leading zeros, but 1 for zero
+  -- the bits it needs: 64, those of the word, less its leading zeros, but 1 for zero
   pub bits : (word n : ℕ) → n < 2 ^ word → length (digits 2 n) ≡ cond (eqb n 0) 1 (word - leadingZeros word n)
   pub lengths : (format n : ℕ) → length (radix format n) ≡ roundedUp (length (digits 2 n)) (digitBits format)
   -- with options: the width, or what stands there without it if that is longer
