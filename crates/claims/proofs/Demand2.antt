@@ -72,7 +72,7 @@ plain-text bits (suc (suc (suc (suc (suc (suc zero)))))) (negsuc k) h = bare-tex
 plain-text bits (suc (suc (suc (suc (suc (suc (suc m))))))) z h = absurd (omega arith)
 
 pub of-text : OfText
-unfolding expText layout point sci short trimmed exponentOf text lastText last digits bare upTo
+unfolding expText layout point sci short trimmed exponentOf text lastText last digits
 of-text = record {
   zero = λ bits. bare-text bits (pos 0) 0;
   decimal-is = λ bits n. bare-text bits (pos n) 0;
