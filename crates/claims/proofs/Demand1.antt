@@ -1,15 +1,19 @@
 -- Demand 1: by which check refuses, if any does, and by the room. Assumes nothing.
 use mathlib.Core.Bool.{Bool, true, false, false≢true, cond, _&&_}
 use mathlib.Core.List.{List, [], _∷_}
-use mathlib.Core.Logic.{_⊎_, inl, inr}
+use mathlib.Core.Logic.{_↔_, _⊎_, inl, inr}
 use mathlib.Core.Path.{_≡_, refl, sym, _∙_}
 use Prim.Native.Nat.{ℕ, suc, _-_, _≤_, _<_}
+use native.Mathlib.Decide.{decLe}
 use native.Mathlib.Omega.{arith}
 use borrow.Author.Tests.{leb-true, leb-false, le-leb, lt-leb}
-use lib.Dec.{leb}
-use lib.IntN.{ℤ}
+use lib.Dec.{leb, lit<}
+use lib.IntN.{ℤ, pos, negsuc}
 use lib.ListN.{length}
-use Rattle.buffer.specs.AtEnd.{begun}
+use Rattle.buffer.specs.AtEnd.{ended, begun}
+use Rattle.decimal.specs.Ends.{EndPromise}
+use Rattle.digits.specs.Text.{ascii, decimal, signed}
+use Rattle.digits.proofs.Text.{text-some}
 use Rattle.kinds.specs.Kinds.{known, inType, meaning}
 use Rattle.part_answers.specs.Answers as parting
 use Rattle.part_answers.specs.Answers.{firstOut, checked, wrote, wroteNumber, wroteValue}
@@ -23,8 +27,8 @@ use Rattle.writing.specs.Text.{textOf}
 use Rattle.writing.specs.Promise.{optionsKnown, exponentKept, fitted, number, value, after, answerOf, answer, Writes}
 use Rattle.writing.specs.declared.Options.{Options}
 use Rattle.writing.specs.declared.Written.{Written}
-use Rattle.writing.specs.declared.Written.the-variants.{Done, NoRoom}
-use Rattle.claims.specs.Demand1.{Demand1, Allowed, Judged, OfWriting, Sound, OfParts, OfEnds}
+use Rattle.writing.specs.declared.Written.the-variants.{TypeRefused, ValueRefused, OptionsRefused, ExponentRefused}
+use Rattle.claims.specs.Demand1.{Demand1, Allowed, Judged, InOrder, OfWriting, Sound, OfParts, OfEnds}
 
 -- ---- by the room, where no check refuses, and where one does
 
@@ -108,10 +112,79 @@ of-core signed bits p format o l = go (known bits) (inType signed bits (meaning 
     go true false e f = rw (e, f) (earlier 7 0 (λ E. false≢true (sym f ∙ E .value)) (λ k. omega arith) (λ k. omega arith))
     go true true e f = rw (e, f) (weaker (λ A. record { type = e; value = f; allowed = A }) (λ J. J .allowed) (of-type bits (meaning 64 signed p) format o l))
 
+-- the numbers, by which check fails first
+both : {A B : Type 0} → A → B → A ↔ B
+both a b = ((λ _. b), (λ _. a))
+
+neither : {A B : Type 0} → (A → ⊥) → (B → ⊥) → A ↔ B
+neither f g = ((λ a. absurd (f a)), (λ b. absurd (g b)))
+
+abbrev first : Bool → Bool → Bool → Bool → Written → Written
+first a b c d w = cond a (cond b (cond c (cond d w ExponentRefused) OptionsRefused) ValueRefused) TypeRefused
+
+passing : (n v : ℕ) → ((n ≡ 0 → ⊥) → n ≡ 8) → InOrder true true true true n v
+passing n v few = record {
+  five = neither (λ e. let z = few (λ z. omega arith) in omega arith) (λ h. false≢true (sym h));
+  seven = neither (λ e. let z = few (λ z. omega arith) in omega arith) (λ h. false≢true (sym (h .1)));
+  six = neither (λ e. let z = few (λ z. omega arith) in omega arith) (λ h. false≢true (sym (h .2)));
+  ten = neither (λ e. let z = few (λ z. omega arith) in omega arith) (λ h. false≢true (sym (h .3)));
+  nothing = λ f g. absurd (g (few f));
+}
+
+in-order : (a b c d : Bool) (t : List ℕ) (room : ℕ) → InOrder a b c d (number (first a b c d (fitted t room))) (value (first a b c d (fitted t room)))
+in-order false b c d t room = record {
+  five = both refl refl;
+  seven = neither (λ e. omega arith) (λ h. false≢true (h .0));
+  six = neither (λ e. omega arith) (λ h. false≢true (h .0));
+  ten = neither (λ e. omega arith) (λ h. false≢true (h .0));
+  nothing = λ _ _. refl;
+}
+in-order true false c d t room = record {
+  five = neither (λ e. omega arith) (λ h. false≢true (sym h));
+  seven = both refl (refl, refl);
+  six = neither (λ e. omega arith) (λ h. false≢true (h .1));
+  ten = neither (λ e. omega arith) (λ h. false≢true (h .1));
+  nothing = λ _ _. refl;
+}
+in-order true true false d t room = record {
+  five = neither (λ e. omega arith) (λ h. false≢true (sym h));
+  seven = neither (λ e. omega arith) (λ h. false≢true (sym (h .1)));
+  six = both refl (refl, refl, refl);
+  ten = neither (λ e. omega arith) (λ h. false≢true (h .2));
+  nothing = λ _ _. refl;
+}
+in-order true true true false t room = record {
+  five = neither (λ e. omega arith) (λ h. false≢true (sym h));
+  seven = neither (λ e. omega arith) (λ h. false≢true (sym (h .1)));
+  six = neither (λ e. omega arith) (λ h. false≢true (sym (h .2)));
+  ten = both refl (refl, refl, refl, refl);
+  nothing = λ _ _. refl;
+}
+in-order true true true true t room = go (leb (length t) room) refl
+  where
+    go : (x : Bool) → leb (length t) room ≡ x → InOrder true true true true (number (fitted t room)) (value (fitted t room))
+    go true e = rw e (passing 0 (length t) (λ f. absurd (f refl)))
+    go false e = rw e (passing 8 (length t) (λ _. refl))
+
+core-order : (signed : Bool) (bits p format : ℕ) (o : Options) (room : ℕ)
+    → InOrder (known bits) (inType signed bits (meaning 64 signed p)) (optionsKnown format o) (exponentKept format o (meaning 64 signed p)) (number (answer signed bits p format o room)) (value (answer signed bits p format o room))
+unfolding answer answerOf
+core-order signed bits p format o room =
+    in-order (known bits) (inType signed bits (meaning 64 signed p)) (optionsKnown format o) (exponentKept format o (meaning 64 signed p)) (textOf bits (meaning 64 signed p) format o) room
+
+type-order : (bits : ℕ) (z : ℤ) (format : ℕ) (o : Options) (room : ℕ)
+    → InOrder true true (optionsKnown format o) (exponentKept format o z) (number (answerOf bits z format o room)) (value (answerOf bits z format o room))
+unfolding answerOf
+type-order bits z format o room = in-order true true (optionsKnown format o) (exponentKept format o z) (textOf bits z format o) room
+
 pub of-writing : OfWriting
 of-writing = record {
   core = λ signed bits p format o l r l′ W. kept W (of-core signed bits p format o l);
   by-type = λ bits z format o l r l′ W. kept W (of-type bits z format o l);
+  at-edge = λ signed bits p format o l n v l′ A. rw (A .numbered, A .returns, A .leaves) (of-core signed bits p format o l);
+  core-order = λ signed bits p format o l r l′ W. rw (W .answers) (core-order signed bits p format o (length l));
+  by-type-order = λ bits z format o l r l′ W. rw (W .answers) (type-order bits z format o (length l));
+  edge-order = λ signed bits p format o l n v l′ A. rw (A .numbered, A .returns) (core-order signed bits p format o (length l));
 }
 
 -- ---- parts
@@ -165,7 +238,28 @@ of-parts = record {
 -- ---- the end entries
 
 pub of-ends : OfEnds
+unfolding signed
 of-ends = record {
-  refused = λ t l r l′ P h. let e = lt-leb (length t) (length l) h in (P .answers ∙ rw e refl, P .leaves ∙ rw e refl);
-  done = λ t l r l′ P s h. let e = le-leb (length t) (length l) h in let a : r ≡ length l - length t = P .answers ∙ rw e refl in (omega arith, P .leaves ∙ rw e refl);
+  refused = refused;
+  done = done;
+  some = some;
+  some-unsigned = some-unsigned;
+  told = λ t l r l′ P s. ((λ e. go t l r l′ P s e (decLe (length t) (length l))), (λ h. refused t l r l′ P h .0));
 }
+  where
+    refused : (t l : List ℕ) (r : ℕ) (l′ : List ℕ) → EndPromise t l r l′ → length l < length t → (r ≡ length l) × (l′ ≡ l)
+    refused t l r l′ P h = let e = lt-leb (length t) (length l) h in (P .answers ∙ rw e refl, P .leaves ∙ rw e refl)
+
+    done : (t l : List ℕ) (r : ℕ) (l′ : List ℕ) → EndPromise t l r l′ → length t ≤ length l → (r ≡ length l - length t) × (l′ ≡ ended l (length l) t)
+    done t l r l′ P h = let e = le-leb (length t) (length l) h in (P .answers ∙ rw e refl, P .leaves ∙ rw e refl)
+
+    some-unsigned : (n : ℕ) → 0 < length (decimal n)
+    some-unsigned n = text-some ascii 10 (lit< tt) n
+
+    some : (z : ℤ) → 0 < length (signed z)
+    some (pos n) = some-unsigned n
+    some (negsuc k) = omega arith
+
+    go : (t l : List ℕ) (r : ℕ) (l′ : List ℕ) → EndPromise t l r l′ → 0 < length t → r ≡ length l → Dec (length t ≤ length l) → length l < length t
+    go t l r l′ P s e (yes h) = absurd (omega (arith, done t l r l′ P h .0))
+    go t l r l′ P s e (no h) = omega arith

@@ -2,12 +2,20 @@
 use mathlib.Core.Bool.{Bool, false}
 use mathlib.Core.Option.{none, some}
 use Prim.Native.Nat.{ℕ, _^_, _≤_, _<_}
+use lib.IntN.{pos}
+use Rattle.scaling.specs.declared.Precision.the-variants.{Digits}
 use Rattle.scientific.specs.Demand.{Demand3, Shortest, Only}
 use Rattle.scientific.specs.Layout.{expText}
 use Rattle.scientific.specs.Sci.{exponentOf, sci}
 use Rattle.scientific.specs.Shape.{Parts, Reads, number, Denotes, apart}
+use Rattle.writing.specs.Text.{textOf}
+use Rattle.writing.specs.Promise.{Unframed}
+use Rattle.writing.specs.declared.Options.{Options}
 
 pub record OfExponent : Type 0 where
+  -- what is written with precision p, with either letter, of every number of at most 99 digits, and so of every magnitude of 64 bits
+  pub written : (bits n p : ℕ) (o : Options) → Unframed o (Digits p) → n < 10 ^ 99
+      → Only 101 (textOf bits (pos n) 5 o) (Demand3 n p) × Only 69 (textOf bits (pos n) 6 o) (Demand3 n p)
   -- with precision p: scientific/specs/Demand.antt says it sentence by sentence
   pub rounded : (letter n p : ℕ) → 57 < letter → sci (some p) n .expo ≤ 99 → Only letter (expText letter (some p) n) (Demand3 n p)
   -- without, where n has e + 1 digits the exponent is e: it denotes n and has no digit to spare

@@ -1,6 +1,6 @@
 -- Ranges, patterns, signs and magnitudes, once over the bits.
 -- Assumes nothing.
-use mathlib.Core.Bool.{Bool, true, false}
+use mathlib.Core.Bool.{Bool, true, false, false≢true}
 use mathlib.Core.Path.{_≡_, refl, sym, ap, _∙_}
 use mathlib.Core.Logic.{_⊎_, inl, inr}
 use Prim.Native.Nat.{ℕ, suc, _+_, _-_, _*_, _/_, _%_, _^_, _≤_, _<_}
@@ -57,6 +57,15 @@ signed-own b (negsuc k) h = lt-ltb k (2 ^ (b - 1)) h
 
 pub signed-meaning : (w b : ℕ) (z : ℤ) (p : ℕ) → 1 ≤ w → b ≤ w → mag z < 2 ^ (b - 1) → p ≡ pattern w z → meaning w true p ≡ z
 signed-meaning w b z p one h m e = rw e (reading-pattern w b z one h (signed-own b z m))
+
+-- so does one of an unsigned type, and two values of a type with one pattern are one
+pub meaning-pattern : (w b : ℕ) (s : Bool) (z : ℤ) → 1 ≤ w → b ≤ w → inType s b z ≡ true → meaning w s (pattern w z) ≡ z
+meaning-pattern w b true z one h t = reading-pattern w b z one h t
+meaning-pattern w b false (pos n) one h t = refl
+meaning-pattern w b false (negsuc k) one h t = absurd (false≢true t)
+
+pub one-pattern : (w b : ℕ) (s : Bool) (y z : ℤ) → 1 ≤ w → b ≤ w → inType s b y ≡ true → inType s b z ≡ true → pattern w y ≡ pattern w z → y ≡ z
+one-pattern w b s y z one h i j e = sym (meaning-pattern w b s y one h i) ∙ ap (meaning w s) e ∙ meaning-pattern w b s z one h j
 
 -- ---- the range test of a word's pattern
 

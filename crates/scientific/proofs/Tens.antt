@@ -1,7 +1,7 @@
 -- Powers of ten, and the exponent of a number, which has one digit more: by the laws of its digits.
 -- Assumes nothing.
 use mathlib.Core.Path.{_≡_, ap, _∙_}
-use Prim.Native.Nat.{ℕ, suc, _-_, _*_, _/_, _^_, _≤_, _<_}
+use Prim.Native.Nat.{ℕ, suc, _-_, _*_, _^_, _≤_, _<_}
 use native.Mathlib.Nat.{one-le-pow, pow-le-pow-right, zero-lt-suc}
 use native.Mathlib.Decide.{decLe}
 use native.Mathlib.Omega.{arith}
@@ -63,12 +63,8 @@ mono {n} {m} h = omega (arith, digits-are n, digits-are m, length-mono 10 ten h)
 pub le : (d n : ℕ) → n < 10 ^ suc d → exponentOf n ≤ d
 le d n h = omega (arith, digits-are n, digits-length-le 10 ten (suc d) n (zero-lt-suc d) h)
 
--- counted by dividing by ten
 pub small : (n : ℕ) → n < 10 → exponentOf n ≡ 0
 small n h = omega (arith, le 0 n h)
-
-pub step : (n : ℕ) → 10 ≤ n → exponentOf n ≡ suc (exponentOf (n / 10))
-step n h = is (suc (exponentOf (n / 10))) (omega (arith, lo (n / 10) (omega arith))) (omega (arith, hi (n / 10)))
 
 -- a number of two or more digits is not 0
 pub some : (n : ℕ) → 0 < exponentOf n → 0 < n
