@@ -17,7 +17,8 @@ pub fn binary(n: u64, len: usize, buf: &mut [u8], end: usize) -> usize
     let mut left = len;
     let mut offset = end;
     let mut remain = n;
-    while 16 < left {
+    // By the number and not by the count: a count that is known tempts the compiler to test for odd and even turns.
+    while 65535 < remain {
         left -= 8;
         offset -= 8;
         words::put8(lanes::eight_bits(remain % 256), buf, offset);

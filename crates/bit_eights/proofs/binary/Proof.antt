@@ -1,15 +1,15 @@
 -- `bit_eights::binary` meets its contract. The invariant: what is left of the text, written so that it ends at the offset, completes the buffer (`Left`).
 -- The measure is how many digits are left. Assumes nothing.
 use mathlib.Core.Path.{_≡_, refl}
-use Prim.Native.Nat.{ℕ, _-_, _/_, _%_, _<_}
+use Prim.Native.Nat.{ℕ, _-_, _/_, _%_, _≤_, _<_}
 use native.Mathlib.Omega.{arith}
 use lib.Dec.{lit<}
 use lib.ListN.{length}
 use lib.Seq.{length-sets}
 use Rattle.buffer.proofs.Left.{Left, left-start}
 use Rattle.digits.specs.Text.{ascii, text, lastText}
-use Rattle.digits.proofs.Text.{lastText-mod}
-use Rattle.lanes.proofs.Tails.{tail-ended}
+use Rattle.digits.proofs.Text.{lastText-mod, text-most}
+use Rattle.lanes.proofs.Tails.{text-more, tail-ended}
 use Rattle.bit_eights.proofs.Eights.{eight-less, eight-store, last-sixteen}
 use borrow.Author.Needs.{needs}
 use Rattle.bit_eights.proofs.binary.Statement.{statement}
@@ -90,7 +90,7 @@ loop-again c =
       rw (c .before .before .put8 .ensures, e .eight-bits2 .ensures, last-eight n)
           (eight-store ascii 1 (lit< tt) n (at-loop .loop .offset - 8) (at-loop .loop .inv .0) (enough at-loop) (omega arith)),
       omega (arith, at-loop .loop .inv .1, eight-less ascii 1 (lit< tt) n (enough at-loop)),
-      omega (arith, l .loop-test .taken),
+      omega (arith, at-loop .loop .inv .1, text-more ascii 2 two 16 n (l .loop-test .taken)),
     )
 
 -- ---- nine to sixteen
@@ -100,6 +100,13 @@ eight-bits-requires-3 c κs = search needs
 
 eight-bits-requires-4 : tie.Need-eight-bits-requires-4 Inv-loop μ-loop
 eight-bits-requires-4 c κs = search needs
+
+-- past the loop no more are left
+few : (c : tie.After-loop Inv-loop μ-loop) → c .before .loop .left ≤ 16
+few c = let l = c .before .loop in omega (arith, l .inv .1, text-most ascii 2 two 16 (l .remain) (lit< tt) (omega (arith, c .loop-test .left)))
+
+sub-tail16 : tie.Need-sub-tail16 Inv-loop μ-loop
+sub-tail16 c = few (c .before .before)
 
 cast-tail16 : tie.Need-cast-tail16 Inv-loop μ-loop
 cast-tail16 c = record { fits = omega arith }
@@ -120,7 +127,7 @@ returns-2 c =
     let s = after .before .before .before .before in
     let l = after .before .loop in
     let said = c .before .before .tail16 .ensures in
-    last-sixteen ascii 1 (lit< tt) (l .remain) (l .left) (l .inv .0) (l .inv .1) (l .inv .2) (omega (arith, after .loop-test .left)) (said .0)
+    last-sixteen ascii 1 (lit< tt) (l .remain) (l .left) (l .inv .0) (l .inv .1) (l .inv .2) (few after) (said .0)
     (rw (front .eight-bits3 .ensures, back .eight-bits4 .ensures, last-eight (l .remain / 256), last-eight (l .remain)) at (said .1))
 
 pub binary-spec : {M : Type 1} → statement M
@@ -143,6 +150,7 @@ binary-spec =
     loop-again
     eight-bits-requires-3
     eight-bits-requires-4
+    sub-tail16
     cast-tail16
     tail16-requires
     same-length-2
