@@ -1,9 +1,10 @@
 -- Demand 1: by which check refuses, if any does, and by the room. Assumes nothing.
 use mathlib.Core.Bool.{Bool, true, false, false≢true, cond, _&&_}
-use mathlib.Core.List.{List, [], _∷_}
+use mathlib.Core.List.{List, [], _∷_, _++_}
 use mathlib.Core.Logic.{_↔_, _⊎_, inl, inr}
-use mathlib.Core.Path.{_≡_, refl, sym, _∙_}
-use Prim.Native.Nat.{ℕ, suc, _-_, _≤_, _<_}
+use mathlib.Core.Path.{_≡_, refl, sym, ap, _∙_, subst}
+use Prim.Native.Nat.{ℕ, suc, _+_, _-_, _≤_, _<_}
+use native.Mathlib.Nat.{zero-add, add-zero}
 use native.Mathlib.Decide.{decLe}
 use native.Mathlib.Omega.{arith}
 use borrow.Author.Tests.{leb-true, leb-false, le-leb, lt-leb}
@@ -16,7 +17,8 @@ use Rattle.digits.specs.Text.{ascii, decimal, signed}
 use Rattle.digits.proofs.Text.{text-some}
 use Rattle.kinds.specs.Kinds.{known, inType, meaning}
 use Rattle.part_answers.specs.Answers as parting
-use Rattle.part_answers.specs.Answers.{firstOut, checked, wrote, wroteNumber, wroteValue}
+use Rattle.part_answers.specs.Answers.{firstOut, checked, measured, measuredNumber, measuredValue, wrote, wroteNumber, wroteValue}
+use Rattle.part_answers.specs.declared.Measured.the-variants as measure
 use Rattle.part_answers.specs.declared.Wrote.{Wrote}
 use Rattle.part_answers.specs.declared.Wrote.the-variants as write
 use Rattle.parts.specs.Parts as parts
@@ -28,7 +30,7 @@ use Rattle.writing.specs.Promise.{optionsKnown, exponentKept, fitted, number, v
 use Rattle.writing.specs.declared.Options.{Options}
 use Rattle.writing.specs.declared.Written.{Written}
 use Rattle.writing.specs.declared.Written.the-variants.{TypeRefused, ValueRefused, OptionsRefused, ExponentRefused}
-use Rattle.claims.specs.Demand1.{Demand1, Allowed, Judged, InOrder, OfWriting, Sound, OfParts, OfEnds}
+use Rattle.claims.specs.Demand1.{Demand1, Allowed, Judged, InOrder, OfWriting, Sound, FirstOut, PartsInOrder, OfParts, OfEnds}
 
 -- ---- by the room, where no check refuses, and where one does
 
@@ -189,17 +191,68 @@ of-writing = record {
 
 -- ---- parts
 
--- every part is inside its source, or one leaves it
-out-or-not : {A : Type 0} (out : ℕ → A) (fine : A) (n i : ℕ) (ps : List Part) → (Inside n ps × (firstOut out fine n i ps ≡ fine)) ⊎ ((Inside n ps → ⊥) × ((j : ℕ) × (firstOut out fine n i ps ≡ out j)))
+-- the first part that leaves its source is what is found, and none where all are inside
+found : {A : Type 0} (out : ℕ → A) (fine : A) (n i : ℕ) (front : List Part) (p : Part) (behind : List Part) → Inside n front → leavesSource n p ≡ true
+    → firstOut out fine n i (front ++ (p ∷ behind)) ≡ out (i + length front)
+unfolding firstOut Inside
+found out fine n i [] p behind I e = rw e (ap out (sym (add-zero i)))
+found out fine n i (q ∷ qs) p behind I e =
+    let j : suc i + length qs ≡ i + length (q ∷ qs) = omega arith in
+    rw (I .0) (found out fine n (suc i) qs p behind (I .1) e ∙ ap out j)
+
+out-or-not : {A : Type 0} (out : ℕ → A) (fine : A) (n i : ℕ) (ps : List Part) → (Inside n ps × (firstOut out fine n i ps ≡ fine)) ⊎ ((k : ℕ) × FirstOut n ps k)
 unfolding firstOut Inside
 out-or-not out fine n i [] = inl (tt, refl)
 out-or-not {A} out fine n i (p ∷ ps) = go (leavesSource n p) refl (out-or-not out fine n (suc i) ps)
   where
-    go : (b : Bool) → leavesSource n p ≡ b → (Inside n ps × (firstOut out fine n (suc i) ps ≡ fine)) ⊎ ((Inside n ps → ⊥) × ((j : ℕ) × (firstOut out fine n (suc i) ps ≡ out j)))
-        → (Inside n (p ∷ ps) × (firstOut out fine n i (p ∷ ps) ≡ fine)) ⊎ ((Inside n (p ∷ ps) → ⊥) × ((j : ℕ) × (firstOut out fine n i (p ∷ ps) ≡ out j)))
-    go true e r = inr ((λ I. false≢true (sym (I .0) ∙ e)), (i, rw e refl))
+    go : (b : Bool) → leavesSource n p ≡ b → (Inside n ps × (firstOut out fine n (suc i) ps ≡ fine)) ⊎ ((k : ℕ) × FirstOut n ps k)
+        → (Inside n (p ∷ ps) × (firstOut out fine n i (p ∷ ps) ≡ fine)) ⊎ ((k : ℕ) × FirstOut n (p ∷ ps) k)
+    go true e r = inr (0, record { front = []; part = p; behind = ps; split = refl; index = refl; inside = tt; leaves = e })
     go false e (inl r) = inl ((e, r .0), rw e (r .1))
-    go false e (inr r) = inr ((λ I. r .0 (I .1)), (r .1 .0, rw e (r .1 .1)))
+    go false e (inr r) =
+        let F = r .1 in
+        inr (suc (r .0), record { front = p ∷ F .front; part = F .part; behind = F .behind; split = ap (λ (l : List Part). p ∷ l) (F .split); index = ap suc (F .index); inside = (e, F .inside); leaves = F .leaves })
+
+module _ {n : ℕ} {ps : List Part} {k : ℕ} (F : FirstOut n ps k) where
+  at-first : {A : Type 0} (out : ℕ → A) (fine : A) → firstOut out fine n 0 ps ≡ out k
+  at-first out fine = rw (F .split, F .index) (found out fine n 0 (F .front) (F .part) (F .behind) (F .inside) (F .leaves) ∙ ap out (zero-add (length (F .front))))
+
+  not-inside : Inside n ps → ⊥
+  unfolding Inside
+  not-inside I = go (F .front) (subst (Inside n) (F .split) I)
+    where
+      go : (front : List Part) → Inside n (front ++ (F .part ∷ F .behind)) → ⊥
+      go [] J = false≢true (sym (J .0) ∙ F .leaves)
+      go (q ∷ qs) J = go qs (J .1)
+
+-- the numbers of an answer that is made by these checks
+module _ {A : Type 0} (num val : A → ℕ) (unknown fine : A) (out : ℕ → A) (six : num unknown ≡ 6) (none : val unknown ≡ 0) (nine : (k : ℕ) → (num (out k) ≡ 9) × (val (out k) ≡ k))
+    (other : (num fine ≡ 6 → ⊥) × (num fine ≡ 9 → ⊥)) (sign : ℕ) (ps : List Part) (n : ℕ) where
+  parts-order : PartsInOrder sign ps n (num (checked unknown out fine n sign ps)) (val (checked unknown out fine n sign ps))
+  unfolding checked
+  parts-order = go (parts.known sign && allKnown ps) refl
+    where
+      go : (b : Bool) → (parts.known sign && allKnown ps) ≡ b → PartsInOrder sign ps n (num (checked unknown out fine n sign ps)) (val (checked unknown out fine n sign ps))
+      go false e = rw e (record {
+        six = both six e;
+        nine = λ k. neither (λ h. omega (arith, six, h .0)) (λ h. false≢true (sym e ∙ h .0));
+        nothing = λ _. none;
+      })
+      go true e = by (out-or-not out fine n 0 ps)
+        where
+          by : (Inside n ps × (firstOut out fine n 0 ps ≡ fine)) ⊎ ((k : ℕ) × FirstOut n ps k) → PartsInOrder sign ps n (num (checked unknown out fine n sign ps)) (val (checked unknown out fine n sign ps))
+          by (inl w) = rw (e, w .1) (record {
+            six = neither (other .0) (λ h. false≢true (sym h ∙ e));
+            nine = λ k. neither (λ h. other .1 (h .0)) (λ h. not-inside (h .1) (w .0));
+            nothing = λ h. absurd (other .0 h);
+          })
+          by (inr w) =
+              let j = w .0 in
+              rw (e, at-first (w .1) out fine) (record {
+                six = neither (λ h. omega (arith, nine j .0)) (λ h. false≢true (sym h ∙ e));
+                nine = λ k. ((λ h. (e, subst (FirstOut n ps) (sym (nine j .1) ∙ h .1) (w .1))), (λ h. let q : out j ≡ out k = sym (at-first (w .1) out fine) ∙ at-first (h .1) out fine in (nine j .0, ap val q ∙ nine k .1)));
+                nothing = λ h. absurd (omega (arith, nine j .0));
+              })
 
 module _ (sign : ℕ) (ps : List Part) (src out : List ℕ) where
   abbrev text : List ℕ
@@ -225,15 +278,30 @@ module _ (sign : ℕ) (ps : List Part) (src out : List ℕ) where
       go false e = rw e (earlier 6 0 (λ E. false≢true (sym e ∙ E .codes)) (λ k. omega arith) (λ k. omega arith))
       go true e = by (out-or-not write.PartRefused fine (length src) 0 ps)
         where
-          by : (Inside (length src) ps × (firstOut write.PartRefused fine (length src) 0 ps ≡ fine)) ⊎ ((Inside (length src) ps → ⊥) × ((j : ℕ) × (firstOut write.PartRefused fine (length src) 0 ps ≡ write.PartRefused j)))
+          by : (Inside (length src) ps × (firstOut write.PartRefused fine (length src) 0 ps ≡ fine)) ⊎ ((k : ℕ) × FirstOut (length src) ps k)
               → of-answer (wrote (length src) (length out) sign ps)
           by (inl w) = rw e (parts-fit (record { codes = e; inside = w .0 }) (leb (trueLength sign ps) (length out)) refl _ (w .1))
-          by (inr w) = rw (e, w .1 .1) (earlier 9 (w .1 .0) (λ E. w .0 (E .inside)) (λ k. omega arith) (λ k. omega arith))
+          by (inr w) = rw (e, at-first (w .1) write.PartRefused fine) (earlier 9 (w .0) (λ E. not-inside (w .1) (E .inside)) (λ k. omega arith) (λ k. omega arith))
 
 pub of-parts : OfParts
+unfolding wrote measured
 of-parts = record {
   writing = λ sign ps src out r out′ W. rw (W .leaves, W .answers) (parts-checked sign ps src out);
+  writing-order = λ sign ps src out r out′ W. rw (W .answers) (written-order sign ps src out);
+  length-order = length-order;
 }
+  where
+    other : (sign : ℕ) (ps : List Part) (src out : List ℕ) (b : Bool) → leb (trueLength sign ps) (length out) ≡ b → (wroteNumber (fine sign ps src out) ≡ 6 → ⊥) × (wroteNumber (fine sign ps src out) ≡ 9 → ⊥)
+    other sign ps src out true e = rw e ((λ h. omega arith), (λ h. omega arith))
+    other sign ps src out false e = rw e ((λ h. omega arith), (λ h. omega arith))
+
+    written-order : (sign : ℕ) (ps : List Part) (src out : List ℕ) → PartsInOrder sign ps (length src) (wroteNumber (wrote (length src) (length out) sign ps)) (wroteValue (wrote (length src) (length out) sign ps))
+    written-order sign ps src out =
+        parts-order wroteNumber wroteValue write.OptionsRefused (fine sign ps src out) write.PartRefused refl refl (λ k. (refl, refl)) (other sign ps src out (leb (trueLength sign ps) (length out)) refl) sign ps (length src)
+
+    length-order : (sign : ℕ) (ps : List Part) (source : ℕ) → PartsInOrder sign ps source (measuredNumber (measured source sign ps)) (measuredValue (measured source sign ps))
+    length-order sign ps source =
+        parts-order measuredNumber measuredValue measure.OptionsRefused (measure.Done (held (trueLength sign ps))) measure.PartRefused refl refl (λ k. (refl, refl)) ((λ h. omega arith), (λ h. omega arith)) sign ps source
 
 -- ---- the end entries
 

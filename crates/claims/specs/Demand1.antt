@@ -1,6 +1,6 @@
 -- Demand 1, of what an entry answers and of every lent byte. That each call ends and stays inside lent memory is what the check shows of every function.
 use mathlib.Core.Bool.{Bool, true, false, _&&_}
-use mathlib.Core.List.{List}
+use mathlib.Core.List.{List, _∷_, _++_}
 use mathlib.Core.Logic.{_↔_}
 use mathlib.Core.Path.{_≡_}
 use Prim.Native.Nat.{ℕ, _-_, _≤_, _<_}
@@ -12,10 +12,10 @@ use Rattle.digits.specs.Text.{decimal, signed}
 use Rattle.edge.specs.Edge as edge
 use Rattle.kinds.specs.Kinds.{known, inType, meaning}
 use Rattle.part_answers.specs.Answers as parting
-use Rattle.part_answers.specs.Answers.{wroteNumber, wroteValue}
+use Rattle.part_answers.specs.Answers.{measured, measuredNumber, measuredValue, wroteNumber, wroteValue}
 use Rattle.part_answers.specs.declared.Wrote.{Wrote}
 use Rattle.parts.specs.Parts as parts
-use Rattle.parts.specs.Parts.{allKnown, Inside, held}
+use Rattle.parts.specs.Parts.{allKnown, leavesSource, Inside, held}
 use Rattle.parts.specs.declared.Part.{Part}
 use Rattle.writing.specs.Text.{textOf}
 use Rattle.writing.specs.Promise.{optionsKnown, exponentKept, number, value, answerOf, answer, Writes}
@@ -82,9 +82,29 @@ pub record Sound (sign : ℕ) (ps : List Part) (src : List ℕ) : Type 0 where
   pub codes : (parts.known sign && allKnown ps) ≡ true
   pub inside : Inside (length src) ps
 
+-- The part with the index k is the first that leaves a source of so many bytes.
+pub record FirstOut (source : ℕ) (ps : List Part) (k : ℕ) : Type 0 where
+  pub front : List Part
+  pub part : Part
+  pub behind : List Part
+  pub split : ps ≡ front ++ (part ∷ behind)
+  pub index : k ≡ length front
+  pub inside : Inside source front
+  pub leaves : leavesSource source part ≡ true
+
+-- n is the number of an answer to parts, and v what it returns: 6 exactly when a code is unknown, 9 exactly when all are known and a part leaves its source, with the first that does.
+pub record PartsInOrder (sign : ℕ) (ps : List Part) (source n v : ℕ) : Type 0 where
+  pub six : (n ≡ 6) ↔ ((parts.known sign && allKnown ps) ≡ false)
+  pub nine : (k : ℕ) → ((n ≡ 9) × (v ≡ k)) ↔ (((parts.known sign && allKnown ps) ≡ true) × FirstOut source ps k)
+  pub nothing : n ≡ 6 → v ≡ 0
+
 pub record OfParts : Type 0 where
   pub writing : (sign : ℕ) (ps : List Part) (src out : List ℕ) (r : Wrote) (out′ : List ℕ) → parting.Writes sign ps src out r out′
       → Demand1 (Sound sign ps src) held (parts.textOf sign src ps) out (wroteNumber r) (wroteValue r) out′
+  -- the numbers of the same answers, and of the length alone
+  pub writing-order : (sign : ℕ) (ps : List Part) (src out : List ℕ) (r : Wrote) (out′ : List ℕ) → parting.Writes sign ps src out r out′
+      → PartsInOrder sign ps (length src) (wroteNumber r) (wroteValue r)
+  pub length-order : (sign : ℕ) (ps : List Part) (source : ℕ) → PartsInOrder sign ps source (measuredNumber (measured source sign ps)) (measuredValue (measured source sign ps))
 
 -- Of the end entries, the C edge's also, whose only refusal is NO_ROOM: r is where the text starts, and the buffer's length on refusal.
 pub record OfEnds : Type 0 where
