@@ -20,8 +20,8 @@ abbrev pub precisionFrom : ℕ → ℕ → Precision
 precisionFrom given digits = cond (set given) (Digits digits) None
 
 abbrev pub optionsFrom : ℕ → ℕ → ℕ → ℕ → ℕ → ℕ → ℕ → ℕ → Options
-optionsFrom plus alternate zero fill align width given digits =
-    record { plus = set plus; alternate = set alternate; zero = set zero; fill = fill; align = align; width = width; precision = precisionFrom given digits }
+optionsFrom plus alternate zeros fill align width given digits =
+    record { plus = set plus; alternate = set alternate; zero = set zeros; fill = fill; align = align; width = width; precision = precisionFrom given digits }
 
 -- What an entry that writes promises of the text t, the answer a that document 01 gives and the buffer l: two numbers, and the buffer l′ that it leaves.
 pub record Answers (t : List ℕ) (a : Written) (l : List ℕ) (n v : ℕ) (l′ : List ℕ) : Type 0 where
