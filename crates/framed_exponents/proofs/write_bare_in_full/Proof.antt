@@ -1,11 +1,11 @@
--- `framing::write_bare_in_full` meets its contract. What was scaled is the text. Assumes nothing.
+-- `framed_exponents::write_bare_in_full` meets its contract. What was scaled is the text. Assumes nothing.
 use mathlib.Core.Option.{none}
 use native.Mathlib.Omega.{arith}
 use Rattle.exponent.proofs.Joined.{expo-is, sized, text-is}
 use Rattle.writing.specs.Text.{letterOf}
 use borrow.Author.Needs.{needs}
-use Rattle.framing.proofs.write_bare_in_full.Statement.{statement}
-use Rattle.framing.proofs.write_bare_in_full.Tie as tie
+use Rattle.framed_exponents.proofs.write_bare_in_full.Statement.{statement}
+use Rattle.framed_exponents.proofs.write_bare_in_full.Tie as tie
 
 in-full-requires : tie.Need-in-full-requires
 in-full-requires c κs = search needs

@@ -1,4 +1,4 @@
--- `framing::write_bare_exponent` meets its contract. What was scaled is the text. Assumes nothing.
+-- `framed_exponents::write_bare_exponent` meets its contract. What was scaled is the text. Assumes nothing.
 use mathlib.Core.Option.{none}
 use native.Mathlib.Omega.{arith}
 use Rattle.exponent.proofs.Joined.{expo-is, sized, text-is}
@@ -6,8 +6,8 @@ use Rattle.scaling.specs.Coefficient.{precisionOf}
 use Rattle.writing.specs.Text.{letterOf}
 use Rattle.writing.proofs.Cases.{settles, exponent-refused, exponent-kept}
 use borrow.Author.Needs.{needs}
-use Rattle.framing.proofs.write_bare_exponent.Statement.{statement}
-use Rattle.framing.proofs.write_bare_exponent.Tie as tie
+use Rattle.framed_exponents.proofs.write_bare_exponent.Statement.{statement}
+use Rattle.framed_exponents.proofs.write_bare_exponent.Tie as tie
 
 enum-told : tie.Need-enum-told
 enum-told c = search needs

@@ -1,7 +1,7 @@
--- `framing::letter_of` meets its contract. Assumes nothing.
+-- `framed_exponents::letter_of` meets its contract. Assumes nothing.
 use borrow.Author.Tests.{eq-eqb, ne-eqb}
-use Rattle.framing.proofs.letter_of.Statement.{statement}
-use Rattle.framing.proofs.letter_of.Tie as tie
+use Rattle.framed_exponents.proofs.letter_of.Statement.{statement}
+use Rattle.framed_exponents.proofs.letter_of.Tie as tie
 
 returns : tie.Need-returns
 returns c = simp (eq-eqb (c .before .args .format) 5 (c .if1 .taken))

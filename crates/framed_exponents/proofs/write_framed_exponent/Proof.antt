@@ -1,4 +1,4 @@
--- `framing::write_framed_exponent` meets its contract. The parts of the scratch bytes are the digits. Assumes nothing.
+-- `framed_exponents::write_framed_exponent` meets its contract. The parts of the scratch bytes are the digits. Assumes nothing.
 use mathlib.Core.List.{List}
 use mathlib.Core.Path.{_≡_, sym, _∙_}
 use Prim.Native.Nat.{ℕ, _+_}
@@ -7,13 +7,14 @@ use lib.ListN.{length}
 use Rattle.padding.specs.Padding.{signOf, prefixOf}
 use Rattle.scaling.specs.Coefficient.{precisionOf}
 use Rattle.scientific.specs.Layout.{expText}
 use Rattle.framing.specs.Laid.{Laid}
 use Rattle.writing.specs.Text.{letterOf}
 use Rattle.writing.proofs.Cases.{settles-room, settles-done, exponent-refused, exponent-kept}
-use Rattle.framing.proofs.Laid.{Digits, digits-of, refused-of, need-is, no-room, in-room}
+use Rattle.framing.proofs.Laid.{need-is, no-room, in-room}
+use Rattle.framed_exponents.proofs.Parted.{Digits, digits-of, refused-of}
 use borrow.Author.Needs.{needs}
-use Rattle.framing.proofs.write_framed_exponent.Statement.{statement}
-use Rattle.framing.proofs.write_framed_exponent.Tie as tie
+use Rattle.framed_exponents.proofs.write_framed_exponent.Statement.{statement}
+use Rattle.framed_exponents.proofs.write_framed_exponent.Tie as tie
 
 cast-fill : tie.Need-cast-fill
 cast-fill c = search needs

@@ -1,4 +1,4 @@
--- `framing::write_scaled` meets its contract: the text is written where it stands in the end, behind a minus or without one. Assumes nothing.
+-- `framed_exponents::write_scaled` meets its contract: the text is written where it stands in the end, behind a minus or without one. Assumes nothing.
 use mathlib.Core.Bool.{Bool}
 use mathlib.Core.List.{List, _∷_}
 use mathlib.Core.Path.{_≡_, ap}
@@ -10,8 +10,8 @@ use Rattle.exponent.specs.Coefficient.{scaledText}
 use Rattle.writing.specs.Text.{letterOf, bare}
 use Rattle.writing.proofs.Cases.{lacks-room, has-room}
 use borrow.Author.Needs.{needs}
-use Rattle.framing.proofs.write_scaled.Statement.{statement}
-use Rattle.framing.proofs.write_scaled.Tie as tie
+use Rattle.framed_exponents.proofs.write_scaled.Statement.{statement}
+use Rattle.framed_exponents.proofs.write_scaled.Tie as tie
 
 size-requires : tie.Need-size-requires
 size-requires c κs = c .before .pre
