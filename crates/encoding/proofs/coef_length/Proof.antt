@@ -1,9 +1,9 @@
--- `exponent::coef_length` meets its contract. Assumes nothing.
+-- `encoding::coef_length` meets its contract. Assumes nothing.
 use native.Mathlib.Omega.{arith}
 use borrow.Author.Needs.{needs}
-use Rattle.exponent.proofs.Encoding.{one-length, fraction-length}
-use Rattle.exponent.proofs.coef_length.Statement.{statement}
-use Rattle.exponent.proofs.coef_length.Tie as tie
+use Rattle.encoding.proofs.Encoding.{one-length, fraction-length}
+use Rattle.encoding.proofs.coef_length.Statement.{statement}
+use Rattle.encoding.proofs.coef_length.Tie as tie
 
 add-if1 : tie.Need-add-if1
 add-if1 c = search needs

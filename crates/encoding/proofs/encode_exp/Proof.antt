@@ -1,11 +1,10 @@
--- `exponent::encode_exp` meets its contract: where there is one digit, the last is written over the first. Assumes nothing.
+-- `encoding::encode_exp` meets its contract: where there is one digit, the last is written over the first. Assumes nothing.
 use native.Mathlib.Omega.{arith}
 use lib.ListN.{length-set}
 use borrow.Author.Needs.{needs}
-use Rattle.exponent.proofs.Encoding.{exp-digits}
-use Rattle.exponent.proofs.Joined.{exp-least}
-use Rattle.exponent.proofs.encode_exp.Statement.{statement}
-use Rattle.exponent.proofs.encode_exp.Tie as tie
+use Rattle.encoding.proofs.Encoding.{exp-least, exp-digits}
+use Rattle.encoding.proofs.encode_exp.Statement.{statement}
+use Rattle.encoding.proofs.encode_exp.Tie as tie
 
 exp-length-requires : tie.Need-exp-length-requires
 exp-length-requires c κs = search needs

@@ -1,8 +1,8 @@
--- `exponent::exp_length` meets its contract. Assumes nothing.
+-- `encoding::exp_length` meets its contract. Assumes nothing.
 use native.Mathlib.Omega.{arith}
-use Rattle.exponent.proofs.Encoding.{one-exp, two-exp}
-use Rattle.exponent.proofs.exp_length.Statement.{statement}
-use Rattle.exponent.proofs.exp_length.Tie as tie
+use Rattle.encoding.proofs.Encoding.{one-exp, two-exp}
+use Rattle.encoding.proofs.exp_length.Statement.{statement}
+use Rattle.encoding.proofs.exp_length.Tie as tie
 
 returns : tie.Need-returns
 returns c = (omega arith, λ letter. one-exp letter _ (c .if1 .taken))

@@ -14,11 +14,11 @@ use Rattle.buffer.proofs.AtEnd.{ended-sets, ended-front, length-ended}
 use Rattle.digits.specs.Digits.{last}
 use Rattle.digits.specs.Text.{ascii, text, lastText, decimal}
 use Rattle.digits.proofs.Last.{digits-last}
-use Rattle.digits.proofs.Text.{length-lastText, text-small, text-last}
+use Rattle.digits.proofs.Text.{length-lastText, text-small, text-last, text-some}
 use Rattle.scientific.specs.Sci.{exponentOf}
 use Rattle.scientific.specs.Layout.{point}
 use Rattle.scientific.proofs.Tens as T
-use Rattle.exponent.specs.Coefficient.{coefText}
+use Rattle.encoding.specs.Coefficient.{coefText}
 
 -- the digits of m: the one that leads, and the f others
 lead-first : (m f : ℕ) → exponentOf m ≡ f → decimal m ≡ ascii (m / 10 ^ f) ∷ lastText ascii 10 f m
@@ -72,6 +72,10 @@ fraction l at m f z e n h =
     (fraction-length m f z n, rw (pointed m f z n, lead-first m f e) (lead-moved l at (at + (f + 2)) (ascii (m / 10 ^ f)) (lastText ascii 10 f m) (omega arith) h))
 
 -- ---- the exponent
+
+-- the letter, and a digit at least
+pub exp-least : (letter k : ℕ) → 2 ≤ length (letter ∷ decimal k)
+exp-least letter k = let l = text-some ascii 10 T.ten k in omega arith
 
 pub one-exp : (letter e : ℕ) → e < 10 → 2 ≡ length (letter ∷ decimal e)
 one-exp letter e h = rw (text-small ascii 10 T.ten e h) refl

@@ -1,4 +1,4 @@
--- `exponent::encode_coef` meets its contract: a single digit, and a lead with a point and a fraction. Assumes nothing.
+-- `encoding::encode_coef` meets its contract: a single digit, and a lead with a point and a fraction. Assumes nothing.
 use mathlib.Core.Path.{_≡_}
 use Prim.Native.Nat.{ℕ, suc, _+_, _<_}
 use native.Mathlib.Omega.{arith}
@@ -6,9 +6,9 @@ use lib.ListN.{length-set}
 use borrow.Author.Needs.{needs}
 use Rattle.scientific.specs.Sci.{exponentOf}
 use Rattle.scientific.proofs.Tens as T
-use Rattle.exponent.proofs.Encoding.{one-digit, fraction}
-use Rattle.exponent.proofs.encode_coef.Statement.{statement}
-use Rattle.exponent.proofs.encode_coef.Tie as tie
+use Rattle.encoding.proofs.Encoding.{one-digit, fraction}
+use Rattle.encoding.proofs.encode_coef.Statement.{statement}
+use Rattle.encoding.proofs.encode_coef.Tie as tie
 
 add-if1 : tie.Need-add-if1
 add-if1 c = search needs
