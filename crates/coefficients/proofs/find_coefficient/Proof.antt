@@ -1,9 +1,9 @@
--- `exponent_texts::find_coefficient` meets its contract. Assumes nothing.
+-- `coefficients::find_coefficient` meets its contract. Assumes nothing.
 use native.Mathlib.Omega.{arith}
-use Rattle.exponent_texts.proofs.Coefficients.{no-digit-10, fraction-from, no-lead, no-fraction, no-letter, found-coefficient}
+use Rattle.coefficients.proofs.Coefficients.{no-digit-10, fraction-from, no-lead, no-fraction, no-letter, found-coefficient}
 use borrow.Author.Needs.{needs}
-use Rattle.exponent_texts.proofs.find_coefficient.Statement.{statement}
-use Rattle.exponent_texts.proofs.find_coefficient.Tie as tie
+use Rattle.coefficients.proofs.find_coefficient.Statement.{statement}
+use Rattle.coefficients.proofs.find_coefficient.Tie as tie
 
 front-requires : tie.Need-front-requires
 front-requires c κs = search needs

@@ -18,11 +18,11 @@ use Rattle.reading.specs.Form.{Place}
 use Rattle.reading.specs.Formats.{exponentShape}
 use Rattle.reading.proofs.Exponent.{Figure, After, place-lead, place-point, place-letter}
 use Rattle.digit_runs.specs.Runs.{IsDigit, Digits, Front}
-use Rattle.exponent_texts.specs.Exponents.{FractionOf, IsCoefficient}
+use Rattle.coefficients.specs.Coefficients.{FractionOf, IsCoefficient}
 use Rattle.digit_runs.specs.declared.Run.{Run}
 use Rattle.whole_texts.proofs.Texts.{sized}
 use Rattle.digit_runs.proofs.Runs.{figure, figures}
-use Rattle.exponent_texts.proofs.Exponents.{digits-length, no-figure, misses, ends-at}
+use Rattle.coefficients.proofs.Places.{digits-length, no-figure, misses, ends-at}
 
 -- the lead digit is read first
 lead-value : (d : ℕ) (ds : List ℕ) → valueFrom 10 d ds ≡ value 10 (d ∷ ds)

@@ -1,10 +1,10 @@
--- `exponent_texts::fraction` meets its contract. Assumes nothing.
+-- `coefficients::fraction` meets its contract. Assumes nothing.
 use mathlib.Core.Logic.{inl, inr}
 use mathlib.Core.Path.{refl}
 use native.Mathlib.Omega.{arith}
 use borrow.Author.Needs.{needs}
-use Rattle.exponent_texts.proofs.fraction.Statement.{statement}
-use Rattle.exponent_texts.proofs.fraction.Tie as tie
+use Rattle.coefficients.proofs.fraction.Statement.{statement}
+use Rattle.coefficients.proofs.fraction.Tie as tie
 
 shared-slice-read-if2 : tie.Need-shared-slice-read-if2
 shared-slice-read-if2 c = search needs
