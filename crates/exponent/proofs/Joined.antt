@@ -12,7 +12,7 @@ use lib.Seq.{take-at, drop-at}
 use Rattle.buffer.specs.AtEnd.{ended, begun}
 use Rattle.buffer.proofs.AtEnd.{begun-behind, ended-whole, ended-on}
 use Rattle.digits.specs.Text.{ascii, lastText, decimal}
-use Rattle.digits.proofs.Text.{length-lastText, text-most, text-some}
+use Rattle.digits.proofs.Text.{length-lastText, text-most}
 use Rattle.formatted.specs.Three.{partsOf}
 use Rattle.formatted.specs.declared.Formatted.{Formatted}
 use Rattle.parts.specs.Parts.{signText, partText, partsText, textOf, leavesSource, Inside, partLength, partsLength, trueLength, zeroPart, copyPart}
@@ -23,7 +23,8 @@ use Rattle.scientific.specs.Sci.{Sci, sci}
 use Rattle.scientific.specs.Layout.{point, layout, expText}
 use Rattle.scientific.proofs.Steps.{layout-zeros}
 use Rattle.scientific.proofs.Tens as T
-use Rattle.exponent.specs.Coefficient.{Sized, coefText, scaledText}
+use Rattle.encoding.specs.Coefficient.{coefText}
+use Rattle.exponent.specs.Coefficient.{Sized, scaledText}
 use Rattle.exponent.specs.Form.{Texts}
 
 -- the lead, a point and the fraction
@@ -46,9 +47,6 @@ coef-least m f z =
 -- the letter and two digits
 pub exp-most : (letter k : ℕ) → k ≤ 99 → length (letter ∷ decimal k) ≤ 3
 exp-most letter k h = let l = text-most ascii 10 T.ten 2 k (omega arith) (omega arith) in omega arith
-
-pub exp-least : (letter k : ℕ) → 2 ≤ length (letter ∷ decimal k)
-exp-least letter k = let l = text-some ascii 10 T.ten k in omega arith
 
 -- a run of the source, z zeros and the run behind it
 abbrev pub three : ℕ → ℕ → ℕ → Formatted

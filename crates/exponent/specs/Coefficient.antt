@@ -1,12 +1,12 @@
 -- What can be written of a coefficient and an exponent, and its text.
 use mathlib.Core.List.{List, _∷_, _++_}
 use mathlib.Core.Path.{_≡_}
-use Prim.Native.Nat.{ℕ, _+_, _/_, _^_, _≤_, _<_}
+use Prim.Native.Nat.{ℕ, _≤_, _<_}
 use lib.ListN.{replicate}
-use Rattle.digits.specs.Text.{ascii, lastText, decimal}
+use Rattle.digits.specs.Text.{decimal}
+use Rattle.encoding.specs.Coefficient.{coefText}
 use Rattle.scaling.specs.declared.Scaled.{Scaled}
 use Rattle.scientific.specs.Sci.{exponentOf}
-use Rattle.scientific.specs.Layout.{point}
 
 -- What can be written: as much of `Scales` as is asked for that, and an exponent of one or two digits.
 pub record Sized (s : Scaled) : Type 0 where
@@ -14,10 +14,6 @@ pub record Sized (s : Scaled) : Type 0 where
   pub few : s .«coef_prec» ≤ 19
   pub zeros : s .«more_prec» ≤ 65535
   pub high : s .exp < 100
-
--- The first digit of m leads; a point, where there are fraction digits; the f others. z zeros are to follow.
-unfoldable pub coefText : ℕ → ℕ → ℕ → List ℕ
-coefText m f z = ascii (m / 10 ^ f) ∷ point (f + z) ++ lastText ascii 10 f m
 
 -- The text of what was scaled: the coefficient with its zeros, the letter, the exponent.
 unfoldable pub scaledText : ℕ → Scaled → List ℕ

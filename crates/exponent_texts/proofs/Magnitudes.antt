@@ -16,12 +16,14 @@ use Rattle.scientific.proofs.Tens as T
 use Rattle.reading.specs.Form.{Reads, Place}
 use Rattle.reading.specs.Formats.{exponentShape}
 use Rattle.reading.proofs.Exponent.{place-none, place-tail}
-use Rattle.exponent_texts.specs.Exponents.{IsCoefficient, AtMostTwo, Rules, Product, IsExponent}
+use Rattle.coefficients.specs.Coefficients.{IsCoefficient}
+use Rattle.exponent_texts.specs.Exponents.{AtMostTwo, Rules, Product, IsExponent}
 use Rattle.exponent_texts.specs.declared.Short.{Short}
 use Rattle.exponent_texts.specs.declared.Held.{Held}
 use Rattle.whole_texts.proofs.Texts.{empty, first, value-lead}
 use Rattle.digit_runs.proofs.Runs.{figures}
-use Rattle.exponent_texts.proofs.Exponents.{digits-length, no-figure, ends-at, two-small}
+use Rattle.coefficients.proofs.Places.{digits-length, no-figure, ends-at}
+use Rattle.exponent_texts.proofs.Exponents.{two-small}
 
 fraction-some : (fs : List ℕ) → length (fraction fs) - 1 ≡ length fs
 unfolding fraction

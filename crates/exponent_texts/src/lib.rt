@@ -1,78 +1,12 @@
-// Exponent texts: the coefficient, the exponent, the rules of writing and the magnitude.
+// Exponent texts: behind the coefficient the exponent, the rules of writing and the magnitude.
 ghost use mathlib.Core.Path.{_≡_};
 ghost use Prim.Native.Nat.{_+_, _-_, _≤_, _<_};
 ghost use lib.ListN.{length};
-ghost use Rattle.exponent_texts.specs.Exponents.{FractionOf, CoefficientOf, AtMostTwo, Rules, Tells, Product, ExponentOf};
-use digit_runs::Run;
-use digit_runs::TENTH;
+ghost use Rattle.exponent_texts.specs.Exponents.{AtMostTwo, Rules, Tells, Product, ExponentOf};
+use coefficients::Coefficient;
+use coefficients::find_coefficient;
 use digit_runs::digit;
-use digit_runs::front;
-use digit_runs::scan;
 use whole_texts::Found;
-
-// What stands behind the lead digit: with a point the fraction's digits, read behind the lead; without one nothing.
-fn fraction(text: &[u8], at: usize, lead: u64) -> Run
-    requires { ⌜ at ≤ length (now text) ⌝ }
-    ensures { λ r. ⌜ FractionOf (now (text .entry)) at lead r ⌝ }
-{
-    if at < text.len() {
-        if text[at] == b'.' {
-            return scan(text, at + 1, 10, TENTH, b'a', lead);
-        }
-    }
-    Run {
-        end: at,
-        value: lead,
-        over: false,
-    }
-}
-
-// The front of an exponent text, up to its letter, which stands at end. The size is that of the point and the fraction; the value that of all digits.
-pub enum Coefficient {
-    Wrong(usize),
-    Number {
-        minus: bool,
-        lead: u64,
-        size: usize,
-        end: usize,
-        value: u64,
-        over: bool,
-    },
-}
-
-fn find_coefficient(text: &[u8], signed: bool, letter: u8) -> Coefficient
-    requires { ⌜ (0 < length (now text)) × (57 < letter) ⌝ }
-    ensures { λ r. ⌜ CoefficientOf signed letter (now (text .entry)) r ⌝ }
-{
-    let start = front(text, signed);
-    if text.len() <= start {
-        return Coefficient::Wrong(start);
-    }
-    let lead = digit(text[start], b'a');
-    if 10 <= lead {
-        return Coefficient::Wrong(start);
-    }
-    let at = start + 1;
-    let run = fraction(text, at, lead);
-    let end = run.end;
-    if end == at + 1 {
-        return Coefficient::Wrong(end);
-    }
-    if text.len() <= end {
-        return Coefficient::Wrong(end);
-    }
-    if text[end] == letter {
-        return Coefficient::Number {
-            minus: 0 < start,
-            lead,
-            size: end - at,
-            end,
-            value: run.value,
-            over: run.over,
-        };
-    }
-    Coefficient::Wrong(end)
-}
 
 // At most two digits: where they end, and the number that they stand for.
 pub struct Short {

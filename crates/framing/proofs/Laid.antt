@@ -1,8 +1,7 @@
--- A text that is laid out in a buffer, and what digits it is laid around: plain ones, and the parts of an exponent form.
+-- A text that is laid out in a buffer, and the plain digits that it is laid around.
 -- Assumes nothing.
 use mathlib.Core.Bool.{Bool, true, false}
 use mathlib.Core.List.{List, _++_}
-use mathlib.Core.Option.{Option}
 use mathlib.Core.Path.{_≡_, refl, sym, ap, _∙_}
 use Prim.Native.Nat.{ℕ, _+_, _-_, _^_, _≤_, _<_}
 use native.Mathlib.Omega.{arith}
@@ -14,24 +13,14 @@ use Rattle.buffer.specs.AtEnd.{ended}
 use Rattle.buffer.proofs.AtEnd.{ended-on}
 use Rattle.digits.specs.Text.{ascii, decimal}
 use Rattle.digits.proofs.Text.{text-most}
-use Rattle.exponent.specs.Form.{Texts, Answers}
-use Rattle.exponent.specs.declared.Shown.{Shown}
-use Rattle.exponent.specs.declared.Shown.the-variants as shown
-use Rattle.formatted.specs.Three.{partsOf}
-use Rattle.formatted.specs.declared.Formatted.{Formatted}
-use Rattle.parts.specs.Parts as Parts
-use Rattle.parts.specs.Parts.{Inside, trueLength}
 use Rattle.padding.specs.Padding.{signOf, prefixOf}
 use Rattle.padding.specs.declared.Pad.{Pad}
 use Rattle.padding.proofs.Padding.{padded-is, padded-length}
 use Rattle.radix.specs.Radix.{radix}
 use Rattle.radix.proofs.Lengths.{radix-most}
-use Rattle.scientific.specs.Layout.{expText}
-use Rattle.scientific.specs.Sci.{sci}
 use Rattle.writing.specs.Promise.{Places}
-use Rattle.writing.specs.Text.{framed, plain, textOf}
+use Rattle.writing.specs.Text.{framed, plain}
 use Rattle.writing.specs.declared.Options.{Options}
-use Rattle.writing.specs.declared.Written.the-variants.{ExponentRefused}
 use Rattle.writing.proofs.Cases.{lacks-room, has-room}
 use Rattle.framing.specs.Laid.{Laid}
 
@@ -83,20 +72,3 @@ module _ (o : Options) (negative : Bool) (format : ℕ) (digits : List ℕ) (pad
       let s₃ = ended-on l need (digits ++ back) front s₂ e₃ (omega arith) (omega arith) h in
       let w : front ++ (digits ++ back) ≡ framed o negative format digits = sym (padded-is (o .zero) (o .fill) (o .align) (o .width) (signOf negative (o .plus)) (prefixOf (o .alternate) format) digits (L .planned)) in
       has-room (framed o negative format digits) l need (L .whole) l₃ h (rw w at s₃)
-
--- what the parts of an exponent form are, whatever its sign code is called
-pub record Digits (letter : ℕ) (p : Option ℕ) (n : ℕ) (src : List ℕ) (f : Formatted) : Type 0 where
-  pub kept : sci p n .expo ≤ 99
-  pub source : length src ≡ 24
-  pub inside : Inside (length src) (partsOf f)
-  pub text : Parts.textOf (f .sign) src (partsOf f) ≡ expText letter p n
-  pub size : trueLength (f .sign) (partsOf f) ≡ length (expText letter p n)
-  pub few : length (expText letter p n) < 2 ^ 17
-
-pub digits-of : (letter letter′ : ℕ) (p : Option ℕ) (n : ℕ) (src : List ℕ) (f : Formatted) (r : Shown) → letter′ ≡ letter → r ≡ shown.Parts f → Answers letter′ p n src r → Digits letter p n src f
-digits-of letter letter′ p n src f r i e A =
-    let T : Texts letter p n src f = rw (e, i) at A in
-    record { kept = T .expo; source = T .source; inside = T .inside; text = rw (T .sign) (T .text); size = rw (T .sign) (T .size); few = T .few }
-
-pub refused-of : (letter : ℕ) (p : Option ℕ) (n : ℕ) (src : List ℕ) (r : Shown) → r ≡ shown.ExponentRefused → Answers letter p n src r → 99 < sci p n .expo
-refused-of letter p n src r e A = rw e at A

@@ -63,7 +63,7 @@ fn write_exponent_plainly(
     ensures { λ r. ⌜ ((bits : ℕ) (o : Options) → Unframed o precision → optionsKnown format o ≡ true → Writes (textOf bits (meaning 64 signed value) format o) (answerOf bits (meaning 64 signed value) format o (length (now (out .entry)))) (now (out .entry)) r (now (out .exit))) ⌝ }
 {
     let split = kinds::split_pattern(signed, value);
-    framing::write_bare_exponent(format, split.magnitude, split.negative, precision, out)
+    framed_exponents::write_bare_exponent(format, split.magnitude, split.negative, precision, out)
 }
 
 // With what the options put around the digits.
@@ -85,7 +85,7 @@ fn write_framed(
         return writing::settle(need, room);
     }
     let split = kinds::split_pattern(signed, value);
-    framing::write_framed_exponent(format, split.magnitude, split.negative, options, out)
+    framed_exponents::write_framed_exponent(format, split.magnitude, split.negative, options, out)
 }
 
 // A value of a type that has been judged: everything else is checked before the first byte is written.

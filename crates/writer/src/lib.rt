@@ -44,6 +44,6 @@ pub fn write_short(kind: Kind, value: u64, format: u32, out: &mut [u8]) -> Writt
         return Written::OptionsRefused;
     }
     let split = kinds::split_pattern(kind.signed, value);
-    let need = framing::write_bare_in_full(format, split.magnitude, split.negative, out);
+    let need = framed_exponents::write_bare_in_full(format, split.magnitude, split.negative, out);
     writing::settle(need, room)
 }

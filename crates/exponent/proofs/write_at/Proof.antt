@@ -7,7 +7,8 @@ use lib.ListN.{length}
 use borrow.Author.Needs.{needs}
 use Rattle.digits.specs.Text.{decimal}
 use Rattle.exponent.specs.Coefficient.{scaledText}
-use Rattle.exponent.proofs.Joined.{coef-least, exp-least, scaled-length, written}
+use Rattle.encoding.proofs.Encoding.{exp-least}
+use Rattle.exponent.proofs.Joined.{coef-least, scaled-length, written}
 use Rattle.exponent.proofs.write_at.Statement.{statement}
 use Rattle.exponent.proofs.write_at.Tie as tie
 

@@ -1,7 +1,7 @@
 -- `exponent_texts::find_exponent` meets its contract. Assumes nothing.
 use mathlib.Core.Path.{subst}
 use native.Mathlib.Omega.{arith}
-use Rattle.exponent_texts.specs.Exponents.{IsCoefficient, CoefficientOf}
+use Rattle.coefficients.specs.Coefficients.{IsCoefficient, CoefficientOf}
 use Rattle.exponent_texts.proofs.Exponents.{two-small}
 use Rattle.exponent_texts.proofs.Magnitudes.{wrong-tail, wrong-none, size-inside, found-over, found-held, found-reads, canonical-rules}
 use borrow.Author.Needs.{needs}

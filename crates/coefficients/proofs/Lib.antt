@@ -1,0 +1,3 @@
+-- Laws of the front of an exponent text.
+pub mod Places
+mod Coefficients

@@ -1,0 +1,2 @@
+-- What is found at the front of an exponent text.
+pub mod Coefficients

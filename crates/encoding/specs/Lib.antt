@@ -1,0 +1,2 @@
+-- The text of a coefficient.
+pub mod Coefficient
