@@ -14,7 +14,7 @@ use Rattle.digits.specs.Text.{text, lastText}
 use Rattle.digits.proofs.Digits.{digits-length}
 use Rattle.digits.proofs.Last.{digits-last}
 use Rattle.digits.proofs.Text.{text-split, text-small}
-use Rattle.bit_eights.proofs.Eights.{above-one}
+use Rattle.digits.proofs.Powers.{above-one}
 
 first-power : (b : ℕ) → b ^ 1 ≡ b
 first-power b = pow-suc b 0 ∙ rw (pow-zero, one-mul)

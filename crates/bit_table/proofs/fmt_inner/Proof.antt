@@ -1,4 +1,4 @@
--- `radix::fmt_inner` meets its contract. The invariant: what is left of the text, written so that it ends at the offset, completes the buffer (`Left`).
+-- `bit_table::fmt_inner` meets its contract. The invariant: what is left of the text, written so that it ends at the offset, completes the buffer (`Left`).
 -- The measure is the number that is left. Assumes nothing.
 use mathlib.Core.Path.{_≡_, refl}
 use mathlib.Core.List.{List, [], _∷_, _++_}
@@ -9,10 +9,10 @@ use lib.Seq.{length-sets}
 use Rattle.buffer.proofs.Left.{Left, left-start, left-room, left-store, left-last}
 use Rattle.digits.specs.Text.{text, lastText}
 use Rattle.digits.proofs.Text.{length-lastText}
-use Rattle.radix.specs.Radix.{tableByte}
-use Rattle.radix.proofs.Shift.{pair-more, pair-last, one-last, shifted-less}
-use Rattle.radix.proofs.fmt_inner.Statement.{statement}
-use Rattle.radix.proofs.fmt_inner.Tie as tie
+use Rattle.bit_table.specs.Bits.{tableByte}
+use Rattle.bit_table.proofs.Shift.{pair-more, pair-last, one-last, shifted-less}
+use Rattle.bit_table.proofs.fmt_inner.Statement.{statement}
+use Rattle.bit_table.proofs.fmt_inner.Tie as tie
 
 abbrev Inv-loop : tie.InvT-loop
 Inv-loop table shift n buf₀ end pair offset₀ remain₀ buf offset remain =

@@ -1,12 +1,12 @@
--- `radix::last_byte` meets its contract: the mask of shift ones leaves the last digit. Assumes nothing.
+-- `bit_table::last_byte` meets its contract: the mask of shift ones leaves the last digit. Assumes nothing.
 use mathlib.Core.Path.{ap}
 use native.Mathlib.Omega.{arith}
 use lib.Pow.{pow-pos}
-use Rattle.radix.specs.Radix.{tableByte}
-use Rattle.radix.proofs.Shift.{one-shifted, last-digit, last-digit-below}
+use Rattle.bit_table.specs.Bits.{tableByte}
+use Rattle.bit_table.proofs.Shift.{one-shifted, last-digit, last-digit-below}
 use borrow.Author.Needs.{needs}
-use Rattle.radix.proofs.last_byte.Statement.{statement}
-use Rattle.radix.proofs.last_byte.Tie as tie
+use Rattle.bit_table.proofs.last_byte.Statement.{statement}
+use Rattle.bit_table.proofs.last_byte.Tie as tie
 
 shl-result : tie.Need-shl-result
 shl-result c = search needs

@@ -9,8 +9,8 @@ use Rattle.digits.specs.Tables.{tabulate}
 use Rattle.digits.specs.Text.{ascii, text}
 use Rattle.digits.proofs.Digits.{digits-below}
 use Rattle.digits.proofs.Tables.{tabulated}
-pub use Rattle.lanes.proofs.Letters.{map-same}
-use Rattle.radix.specs.Radix.{lower, tableByte}
+use Rattle.lanes.proofs.Letters.{map-same}
+use Rattle.bit_table.specs.Bits.{lower, tableByte}
 
 module _ (α β : ℕ → ℕ) (b : ℕ) (same : (d : ℕ) → d < b → α d ≡ β d) where
   text-same : 1 < b → (n : ℕ) → text α b n ≡ text β b n

@@ -1,14 +1,14 @@
--- `radix::digit_count` meets its contract: the bits over the shift, rounded up. Assumes nothing.
+-- `bit_table::digit_count` meets its contract: the bits over the shift, rounded up. Assumes nothing.
 use mathlib.Core.Path.{sym, _∙_}
 use Prim.Native.Nat.{_≤_}
 use native.Mathlib.Nat.{div-le-self, lt-of-le-of-lt}
 use native.Mathlib.Omega.{arith}
 use lib.Dec.{lit<}
 use Rattle.digits.proofs.Digits.{digits-length-le}
-use Rattle.radix.proofs.Rounded.{rounded-sum, length-rounded}
+use Rattle.bit_table.proofs.Rounded.{rounded-sum, length-rounded}
 use borrow.Author.Needs.{needs}
-use Rattle.radix.proofs.digit_count.Statement.{statement}
-use Rattle.radix.proofs.digit_count.Tie as tie
+use Rattle.bit_table.proofs.digit_count.Statement.{statement}
+use Rattle.bit_table.proofs.digit_count.Tie as tie
 
 bits-most : (c : tie.After-bit-length) → c .bit-length .result ≤ 64
 bits-most c = rw (c .bit-length .ensures) (digits-length-le 2 (lit< tt) 64 (c .before .args .n) (lit< tt) (c .before .fits .n .fits))

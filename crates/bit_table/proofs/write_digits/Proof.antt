@@ -1,14 +1,14 @@
--- `radix::write_digits` meets its contract: the table gives the text. Assumes nothing.
+-- `bit_table::write_digits` meets its contract: the table gives the text. Assumes nothing.
 use mathlib.Core.Path.{_≡_}
 use Prim.Native.Nat.{_^_}
 use lib.Pow.{pow-mono}
 use Rattle.digits.specs.Text.{text}
-use Rattle.radix.specs.Radix.{lower, tableByte}
-use Rattle.bit_eights.proofs.Eights.{above-one}
-use Rattle.radix.proofs.Table.{table-text}
+use Rattle.bit_table.specs.Bits.{lower, tableByte}
+use Rattle.digits.proofs.Powers.{above-one}
+use Rattle.bit_table.proofs.Table.{table-text}
 use borrow.Author.Needs.{needs}
-use Rattle.radix.proofs.write_digits.Statement.{statement}
-use Rattle.radix.proofs.write_digits.Tie as tie
+use Rattle.bit_table.proofs.write_digits.Statement.{statement}
+use Rattle.bit_table.proofs.write_digits.Tie as tie
 
 by-table : (c : tie.After-digit-table) → let a = c .before .before .args in
     text (tableByte (c .digit-table .result)) (2 ^ a .shift) (a .n) ≡ text lower (2 ^ a .shift) (a .n)

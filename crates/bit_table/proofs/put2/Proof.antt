@@ -1,13 +1,13 @@
--- `radix::put2` meets its contract: the last digit, and that of what stands in front of it. Assumes nothing.
+-- `bit_table::put2` meets its contract: the last digit, and that of what stands in front of it. Assumes nothing.
 use native.Mathlib.Numerals.{add-one}
 use native.Mathlib.Omega.{arith}
 use Prim.Native.Nat.{_^_}
 use lib.ListN.{length-set}
-use Rattle.radix.specs.Radix.{tableByte}
-use Rattle.radix.proofs.Shift.{pair-is}
+use Rattle.bit_table.specs.Bits.{tableByte}
+use Rattle.bit_table.proofs.Shift.{pair-is}
 use borrow.Author.Needs.{needs}
-use Rattle.radix.proofs.put2.Statement.{statement}
-use Rattle.radix.proofs.put2.Tie as tie
+use Rattle.bit_table.proofs.put2.Statement.{statement}
+use Rattle.bit_table.proofs.put2.Tie as tie
 
 shr-last-byte : tie.Need-shr-last-byte
 shr-last-byte c = search needs
