@@ -1,33 +1,14 @@
--- Some of a word's bytes, the bytes of a word shifted up, and the bytes of a buffer as a word.
+-- The bytes of a buffer as a word.
 -- Assumes nothing.
 use mathlib.Core.List.{List, [], _∷_, _++_}
-use mathlib.Core.Path.{_≡_, refl, sym, ap, ap₂, _∙_}
-use Prim.Native.Nat.{ℕ, zero, suc, _+_, _*_, _/_, _^_, _≤_, _<_}
-use native.Mathlib.Nat.{add-zero, one-le-pow}
+use mathlib.Core.Path.{_≡_, sym, ap, ap₂, _∙_}
+use Prim.Native.Nat.{ℕ, suc, _+_, _*_, _^_, _≤_, _<_}
 use native.Mathlib.Numerals.{add-one, add-two, add-three}
 use native.Mathlib.Omega.{arith}
-use lib.Dec.{lit<}
-use lib.ListN.{length, getD, take, drop, replicate}
-use lib.Seq.{drop-cons, take-at, drop-at, drop-drop, take-add}
+use lib.ListN.{length, getD, take, drop}
+use lib.Seq.{drop-cons, drop-drop, take-add}
 use Rattle.words.specs.Bytes.{bytesOf}
-use Rattle.words.proofs.Bytes.{length-bytesOf, bytes-split, bytes-cons, bytes-join}
-
-pub bytes-take : (j k x : ℕ) → take j (bytesOf (j + k) x) ≡ bytesOf j x
-bytes-take j k x = ap (take j) (bytes-split j k x) ∙ take-at (bytesOf j x) (bytesOf k (x / 2 ^ (j * 8))) j (length-bytesOf j x)
-
-pub bytes-drop : (j k x : ℕ) → drop j (bytesOf (j + k) x) ≡ bytesOf k (x / 2 ^ (j * 8))
-bytes-drop j k x = ap (drop j) (bytes-split j k x) ∙ drop-at (bytesOf j x) (bytesOf k (x / 2 ^ (j * 8))) j (length-bytesOf j x)
-
-zero-bytes : (k : ℕ) → bytesOf k 0 ≡ replicate k 0
-unfolding bytesOf
-zero-bytes zero = refl
-zero-bytes (suc k) = ap (λ (l : List ℕ). 0 ∷ l) (zero-bytes k)
-
--- a word shifted by k bytes has k zeros below it
-pub bytes-shifted : (k j x : ℕ) → bytesOf (k + j) (x * 2 ^ (k * 8)) ≡ replicate k 0 ++ bytesOf j x
-bytes-shifted k j x =
-    let e : x * 2 ^ (k * 8) ≡ x * 2 ^ (k * 8) + 0 = sym (add-zero (x * 2 ^ (k * 8))) in
-    ap (bytesOf (k + j)) e ∙ bytes-join k j x {x = 0} (one-le-pow (k * 8) 2 (lit< tt)) ∙ ap (λ (l : List ℕ). l ++ bytesOf j x) (zero-bytes k)
+use Rattle.words.proofs.Bytes.{bytes-cons, bytes-join}
 
 -- the bytes of a buffer from a place on
 next-byte : (k at : ℕ) (l : List ℕ) → at < length l → take (suc k) (drop at l) ≡ getD l at 0 ∷ take k (drop (suc at) l)

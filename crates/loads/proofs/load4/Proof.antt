@@ -1,8 +1,8 @@
--- `words::load4` meets its contract: four bytes side by side. Assumes nothing.
-use Rattle.words.proofs.Loads.{load-four}
+-- `loads::load4` meets its contract: four bytes side by side. Assumes nothing.
+use Rattle.loads.proofs.Loads.{load-four}
 use borrow.Author.Needs.{needs}
-use Rattle.words.proofs.load4.Statement.{statement}
-use Rattle.words.proofs.load4.Tie as tie
+use Rattle.loads.proofs.load4.Statement.{statement}
+use Rattle.loads.proofs.load4.Tie as tie
 
 shared-slice-read-wide : tie.Need-shared-slice-read-wide
 shared-slice-read-wide c = search needs

@@ -1,8 +1,8 @@
--- `words::load8` meets its contract: two words of four. Assumes nothing.
-use Rattle.words.proofs.Loads.{load-eight}
+-- `loads::load8` meets its contract: two words of four. Assumes nothing.
+use Rattle.loads.proofs.Loads.{load-eight}
 use borrow.Author.Needs.{needs}
-use Rattle.words.proofs.load8.Statement.{statement}
-use Rattle.words.proofs.load8.Tie as tie
+use Rattle.loads.proofs.load8.Statement.{statement}
+use Rattle.loads.proofs.load8.Tie as tie
 
 load4-requires : tie.Need-load4-requires
 load4-requires c κs = search needs
