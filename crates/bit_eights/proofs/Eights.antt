@@ -2,26 +2,18 @@
 -- Assumes nothing.
 use mathlib.Core.Path.{_≡_, refl, sym, ap, _∙_}
 use mathlib.Core.List.{List, _++_}
-use Prim.Native.Nat.{ℕ, zero, suc, _+_, _*_, _-_, _/_, _≤_, _<_, _^_}
+use Prim.Native.Nat.{ℕ, _+_, _*_, _-_, _/_, _≤_, _<_, _^_}
 use native.Mathlib.Decide.{decLe}
-use native.Mathlib.Nat.{pow-zero, pow-suc, mul-zero, mul-suc}
 use native.Mathlib.Omega.{arith}
 use lib.Dec.{lit<}
 use lib.ListN.{length, drop}
-use lib.Pow.{pow-add, pow-lt}
 use lib.Seq.{sets}
 use Rattle.buffer.specs.AtEnd.{ended}
 use Rattle.buffer.proofs.Left.{Left, left-store, left-last}
 use Rattle.digits.specs.Text.{text, lastText}
+use Rattle.digits.proofs.Powers.{pow-pow, above-one}
 use Rattle.digits.proofs.Text.{length-lastText, lastText-mod, text-longer, text-most, text-split}
 use Rattle.lanes.proofs.Tails.{drop-joined, dropped}
-
-pub pow-pow : (m k : ℕ) → (2 ^ m) ^ k ≡ 2 ^ (m * k)
-pow-pow m zero = rw (pow-zero, mul-zero, pow-zero)
-pow-pow m (suc k) = rw (pow-suc (2 ^ m) k, mul-suc, pow-add 2 (m * k) m, pow-pow m k)
-
-pub above-one : {s : ℕ} → 0 < s → 1 < 2 ^ s
-above-one h = pow-lt h
 
 module _ (α : ℕ → ℕ) (s : ℕ) (p : 0 < s) where
   big : 1 < 2 ^ s

@@ -15,7 +15,7 @@ use Rattle.digits.specs.Digits.{valueFrom, Below}
 use Rattle.digits.specs.Text.{ascii}
 use Rattle.digits.proofs.Digits.{Below-snoc, Below-append, valueFrom-append}
 use Rattle.radix.specs.Radix.{digitByte, lower}
-use Rattle.radix.proofs.Table.{map-same}
+use Rattle.lanes.proofs.Letters.{map-same}
 use Rattle.scientific.specs.Shape.{sign}
 use Rattle.digit_runs.specs.Runs.{IsDigit, Digits, DigitRun, Scanned, Front}
 

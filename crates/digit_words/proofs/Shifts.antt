@@ -11,8 +11,7 @@ use lib.Seq.{take-take}
 use Rattle.digits.specs.Digits.{value, valueFrom, Below}
 use Rattle.digits.proofs.Digits.{Below-append}
 use Rattle.words.specs.Bytes.{bytesOf}
-use Rattle.words.proofs.Bytes.{bytes-mod, bytes-join}
-use Rattle.words.proofs.Loads.{bytes-take, bytes-drop, bytes-shifted}
+use Rattle.words.proofs.Bytes.{bytes-mod, bytes-join, bytes-take, bytes-drop, bytes-shifted}
 
 -- ---- digits left out, put in front, put together
 

@@ -5,4 +5,5 @@ pub mod Length
 pub mod Count
 pub mod Text
 pub mod Tables
+pub mod Powers
 pub mod Examples

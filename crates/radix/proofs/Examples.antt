@@ -6,7 +6,7 @@ use Prim.Native.Nat.{_-_, _^_}
 use lib.ListN.{length, replicate}
 use Rattle.digits.specs.Digits.{upTo, bare, digits}
 use Rattle.digits.specs.Text.{text}
-use Rattle.radix.specs.Radix.{radix, roundedUp}
+use Rattle.radix.specs.Radix.{radix}
 
 -- `0`
 zero-is : radix 1 0 ≡ 48 ∷ []
@@ -37,7 +37,3 @@ binary-greatest-u64-is = refl
 octal-greatest-u128-is : length (radix 2 (2 ^ 128 - 1)) ≡ 43
 unfolding text digits bare upTo
 octal-greatest-u128-is = refl
-
-rounded-128-over-3 : roundedUp 128 3 ≡ 43
-unfolding roundedUp
-rounded-128-over-3 = refl

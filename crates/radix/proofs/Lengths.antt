@@ -12,8 +12,8 @@ use Rattle.digits.specs.Digits.{digits}
 use Rattle.digits.proofs.Digits.{digits-length-le}
 use Rattle.digits.proofs.Text.{length-text}
 use Rattle.radix.specs.Radix.{lower, upper, radix, digitBits, roundedUp}
-use Rattle.bit_eights.proofs.Eights.{pow-pow, above-one}
-use Rattle.radix.proofs.Rounded.{length-rounded}
+use Rattle.digits.proofs.Powers.{pow-pow, above-one}
+use Rattle.bit_table.proofs.Rounded.{length-rounded}
 
 module _ (format : ℕ) where
   -- the ways through the cases

@@ -1,6 +1,3 @@
 -- Laws that belong to no one function.
-pub mod Shift
-pub mod Rounded
 pub mod Lengths
-pub mod Table
 pub mod Examples

@@ -19,7 +19,7 @@ use Rattle.digits.proofs.Text.{text-some}
 use Rattle.kinds.specs.Kinds.{inType, pattern, reading, negative}
 use Rattle.kinds.proofs.Patterns.{reading-pattern}
 use Rattle.radix.specs.Radix.{digitByte, lower, upper}
-use Rattle.radix.proofs.Table.{table-text}
+use Rattle.bit_table.proofs.Table.{table-text}
 use Rattle.scientific.specs.Layout.{layout, expText}
 use Rattle.scientific.specs.Shape.{Parts, Shaped, written, sign, number, Denotes}
 use Rattle.scientific.specs.Canonical.{CanonicalParts, magnitude, Plain}

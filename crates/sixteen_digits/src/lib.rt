@@ -11,8 +11,8 @@ ghost use Rattle.words.specs.Bytes.{bytesOf};
 use digit_words::NONE;
 use digit_words::number;
 use lanes::spelled;
-use words::load4;
-use words::load8;
+use loads::load4;
+use loads::load8;
 
 // The number that a text stands for, where it is known.
 pub struct Number {

@@ -12,8 +12,8 @@ use digit_words::figures;
 use digit_words::number;
 use digit_words::number_around;
 use digit_words::number_before;
-use words::load4;
-use words::load8;
+use loads::load4;
+use loads::load8;
 
 // The digit that a byte is; 10 or more where it is none.
 fn digit(byte: u8) -> u64

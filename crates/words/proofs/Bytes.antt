@@ -1,15 +1,15 @@
--- Laws of the bytes of a word, over the count of bytes: how many, cut in two, shifted.
+-- Laws of the bytes of a word, over the count of bytes: how many, cut in two, some of them, shifted down and up.
 -- Assumes nothing.
 use mathlib.Core.Path.{_≡_, refl, sym, ap, _∙_}
 use mathlib.Core.List.{List, _∷_, _++_}
 use Prim.Native.Nat.{ℕ, zero, suc, _+_, _*_, _/_, _%_, _^_, _≤_, _<_}
-use native.Mathlib.Nat.{zero-add, suc-add, div-one, mod-lt}
+use native.Mathlib.Nat.{add-zero, zero-add, suc-add, div-one, mod-lt, one-le-pow}
 use native.Mathlib.Omega.{arith}
 use lib.Arith.{digits-div, digits-mod}
 use lib.Dec.{lit<}
-use lib.ListN.{length, drop}
+use lib.ListN.{length, take, drop, replicate}
 use lib.Pow.{shr-shr, mod-pow-add}
-use lib.Seq.{drop-at, drop-append-le}
+use lib.Seq.{take-at, drop-at, drop-append-le}
 use Rattle.words.specs.Bytes.{bytesOf}
 
 pub length-bytesOf : (k x : ℕ) → length (bytesOf k x) ≡ k
@@ -53,3 +53,21 @@ bytes-join j k y {x} h =
     let low : bytesOf j (y * 2 ^ (j * 8) + x) ≡ bytesOf j x = sym (bytes-mod j (y * 2 ^ (j * 8) + x)) ∙ ap (bytesOf j) (digits-mod y h) in
     let high : bytesOf k ((y * 2 ^ (j * 8) + x) / 2 ^ (j * 8)) ≡ bytesOf k y = ap (bytesOf k) (digits-div y h) in
     bytes-split j k (y * 2 ^ (j * 8) + x) ∙ rw (low, high)
+
+-- some of a word's bytes
+pub bytes-take : (j k x : ℕ) → take j (bytesOf (j + k) x) ≡ bytesOf j x
+bytes-take j k x = ap (take j) (bytes-split j k x) ∙ take-at (bytesOf j x) (bytesOf k (x / 2 ^ (j * 8))) j (length-bytesOf j x)
+
+pub bytes-drop : (j k x : ℕ) → drop j (bytesOf (j + k) x) ≡ bytesOf k (x / 2 ^ (j * 8))
+bytes-drop j k x = ap (drop j) (bytes-split j k x) ∙ drop-at (bytesOf j x) (bytesOf k (x / 2 ^ (j * 8))) j (length-bytesOf j x)
+
+zero-bytes : (k : ℕ) → bytesOf k 0 ≡ replicate k 0
+unfolding bytesOf
+zero-bytes zero = refl
+zero-bytes (suc k) = ap (λ (l : List ℕ). 0 ∷ l) (zero-bytes k)
+
+-- a word shifted by k bytes has k zeros below it
+pub bytes-shifted : (k j x : ℕ) → bytesOf (k + j) (x * 2 ^ (k * 8)) ≡ replicate k 0 ++ bytesOf j x
+bytes-shifted k j x =
+    let e : x * 2 ^ (k * 8) ≡ x * 2 ^ (k * 8) + 0 = sym (add-zero (x * 2 ^ (k * 8))) in
+    ap (bytesOf (k + j)) e ∙ bytes-join k j x {x = 0} (one-le-pow (k * 8) 2 (lit< tt)) ∙ ap (λ (l : List ℕ). l ++ bytesOf j x) (zero-bytes k)

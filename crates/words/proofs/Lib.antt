@@ -2,4 +2,3 @@
 pub mod Bytes
 pub mod Stores
 pub mod Zeros
-pub mod Loads

@@ -1,9 +1,9 @@
-// A word's bytes stored in a buffer, the lowest first, all of them or without the zeros in front; and loaded from one.
-// Eight stores side by side of one word's bytes become one store, and eight loads one load.
+// A word's bytes stored in a buffer, the lowest first, all of them or without the zeros in front.
+// Eight stores side by side of one word's bytes become one store. They are loaded by the crate loads.
 ghost use mathlib.Core.Path.{_≡_};
-ghost use Prim.Native.Nat.{_+_, _-_, _^_, _≤_, _<_};
+ghost use Prim.Native.Nat.{_+_, _-_, _≤_};
 ghost use mathlib.Core.List.{_++_};
-ghost use lib.ListN.{length, take, drop};
+ghost use lib.ListN.{length, drop};
 ghost use lib.Seq.{sets};
 ghost use Rattle.words.specs.Bytes.{bytesOf, zerosFront};
 
@@ -89,26 +89,4 @@ pub fn tail16(x: u64, y: u64, z: u32, buf: &mut [u8], end: usize) -> usize
     put8(x >> (z * 8), buf, at);
     put8(y, buf, end - 8);
     at
-}
-
-fn wide(byte: u8) -> u64
-    ensures { λ r. ⌜ (r ≡ byte) × (r < 256) ⌝ }
-{
-    byte as u64
-}
-
-// The four bytes from the index at on, as a word.
-pub fn load4(s: &[u8], at: usize) -> u64
-    requires { ⌜ at + 4 ≤ length (now s) ⌝ }
-    ensures { λ r. ⌜ (bytesOf 4 r ≡ take 4 (drop at (now (s .entry)))) × (r < 2 ^ 32) ⌝ }
-{
-    wide(s[at]) + wide(s[at + 1]) * 256 + wide(s[at + 2]) * 65536 + wide(s[at + 3]) * 16777216
-}
-
-// The eight bytes.
-pub fn load8(s: &[u8], at: usize) -> u64
-    requires { ⌜ at + 8 ≤ length (now s) ⌝ }
-    ensures { λ r. ⌜ bytesOf 8 r ≡ take 8 (drop at (now (s .entry))) ⌝ }
-{
-    load4(s, at) + load4(s, at + 4) * 4294967296
 }

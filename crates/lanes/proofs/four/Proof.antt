@@ -11,8 +11,7 @@ use Rattle.digits.proofs.Digits.{Below-append}
 use Rattle.lanes.specs.Letters.{digitByte}
 use Rattle.lanes.proofs.Letters.{bytes-last, below-last}
 use Rattle.words.specs.Bytes.{bytesOf}
-use Rattle.words.proofs.Bytes.{bytes-mod, bytes-split}
-use Rattle.words.proofs.Loads.{bytes-take}
+use Rattle.words.proofs.Bytes.{bytes-mod, bytes-split, bytes-take}
 use borrow.Author.Needs.{needs}
 use Rattle.lanes.proofs.four.Statement.{statement}
 use Rattle.lanes.proofs.four.Tie as tie

@@ -1,7 +1,7 @@
 -- `radix::counted_octal` meets its contract: of octal digits none is a letter. Assumes nothing.
 use native.Mathlib.Omega.{arith}
 use lib.Dec.{lit<, lit≤}
-use Rattle.radix.proofs.Table.{plain-text}
+use Rattle.bit_table.proofs.Table.{plain-text}
 use borrow.Author.Needs.{needs}
 use Rattle.radix.proofs.counted_octal.Statement.{statement}
 use Rattle.radix.proofs.counted_octal.Tie as tie
