@@ -24,7 +24,7 @@ abbrev pub One : {R M : Type 0} → (R → M → Type 0) → Type 0
 One {R} {M} P = (r s : R) (m n : M) → P r m → P s n → (r ≡ s) × (m ≡ n)
 
 pub record OneAnswer : Type 0 where
-  -- writer::write, write_short; unsigned_types::write_u8 to write_u64; signed_types::write_i8 to write_i64
+  -- writer::write, write_short; by_type::write_u8 to write_i64
   pub write : (signed : Bool) (bits p format : ℕ) (o : Options) (l : List ℕ) → One (λ (r : Written) (m : List ℕ). Writes (textOf bits (meaning 64 signed p) format o) (answer signed bits p format o (length l)) l r m)
   pub write-short : (signed : Bool) (bits p format : ℕ) (l : List ℕ) → One (λ (r : Written) (m : List ℕ). Writes (textOf bits (meaning 64 signed p) format house) (answer signed bits p format house (length l)) l r m)
   pub write-by-type : (bits : ℕ) (z : ℤ) (format : ℕ) (o : Options) (l : List ℕ) → One (λ (r : Written) (m : List ℕ). Writes (textOf bits z format o) (answerOf bits z format o (length l)) l r m)

@@ -13,19 +13,19 @@ use writing::Written;
 
 fn unsigned(bits: u64, x: u64, format: u32, options: Options, out: &mut [u8]) -> Written {
     match bits {
-        8 => unsigned_types::write_u8(narrow::byte(x), format, options, out),
-        16 => unsigned_types::write_u16(half(x), format, options, out),
-        32 => unsigned_types::write_u32(word(x), format, options, out),
-        _ => unsigned_types::write_u64(x, format, options, out),
+        8 => by_type::write_u8(narrow::byte(x), format, options, out),
+        16 => by_type::write_u16(half(x), format, options, out),
+        32 => by_type::write_u32(word(x), format, options, out),
+        _ => by_type::write_u64(x, format, options, out),
     }
 }
 
 fn signed(bits: u64, p: u64, format: u32, options: Options, out: &mut [u8]) -> Written {
     match bits {
-        8 => signed_types::write_i8(signed_byte(p), format, options, out),
-        16 => signed_types::write_i16(signed_half(p), format, options, out),
-        32 => signed_types::write_i32(signed_word(p), format, options, out),
-        _ => signed_types::write_i64(signed_of(p), format, options, out),
+        8 => by_type::write_i8(signed_byte(p), format, options, out),
+        16 => by_type::write_i16(signed_half(p), format, options, out),
+        32 => by_type::write_i32(signed_word(p), format, options, out),
+        _ => by_type::write_i64(signed_of(p), format, options, out),
     }
 }
 

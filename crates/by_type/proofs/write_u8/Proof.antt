@@ -1,10 +1,10 @@
--- `unsigned_types::write_u8` meets its contract. Assumes nothing.
+-- `by_type::write_u8` meets its contract. Assumes nothing.
 use mathlib.Core.Path.{refl}
 use Prim.Native.Nat.{_^_}
 use borrow.Author.Tests.{lt-ltb}
 use borrow.Author.Needs.{needs}
-use Rattle.unsigned_types.proofs.write_u8.Statement.{statement}
-use Rattle.unsigned_types.proofs.write_u8.Tie as tie
+use Rattle.by_type.proofs.write_u8.Statement.{statement}
+use Rattle.by_type.proofs.write_u8.Tie as tie
 
 write-value-requires : tie.Need-write-value-requires
 write-value-requires c κs = let s = c .before .before in (refl, lt-ltb (s .args .value) (2 ^ 8) (s .fits .value .fits))

@@ -1,4 +1,4 @@
--- `signed_types::write_i64` meets its contract. Assumes nothing.
+-- `by_type::write_i64` meets its contract. Assumes nothing.
 use mathlib.Core.Path.{_≡_, refl, ap, _∙_}
 use native.Mathlib.Omega.{arith}
 use mir.Facts.{toZ-ofZ}
@@ -6,8 +6,8 @@ use Rattle.kinds.specs.Kinds.{pattern, meaning}
 use Rattle.kinds.proofs.Patterns.{signed-own, signed-meaning}
 use mathlib.Core.Bool.{true}
 use borrow.Author.Needs.{needs}
-use Rattle.signed_types.proofs.write_i64.Statement.{statement}
-use Rattle.signed_types.proofs.write_i64.Tie as tie
+use Rattle.by_type.proofs.write_i64.Statement.{statement}
+use Rattle.by_type.proofs.write_i64.Tie as tie
 
 -- the pattern stands for the value
 stands : (c : tie.After-pattern-i64) → meaning 64 true (c .pattern-i64 .result) ≡ c .before .before .args .value
