@@ -1,4 +1,4 @@
--- `part_list::write_before` meets its contract: a walk of its MIR, by hand, with a loop over a `&[Part]` from its last part to its first. Each turn reads one part where it lies, lends out to `Part::write_before` for a lifetime of the call, and has it again at the list that the callee left (`Lent.antt`). Behind the loop out is given up for good to `write_sign`. All that the proof knows of the two callees is that each meets its contract.
+-- `part_walk::write_before` meets its contract: a walk of its MIR, by hand, with a loop over a `&[Part]` from its last part to its first. Each turn reads one part where it lies, lends out to `Part::write_before` for a lifetime of the call, and has it again at the list that the callee left (`Lent.antt`). Behind the loop out is given up for good to `write_sign`. All that the proof knows of the two callees is that each meets its contract.
 --     Turn         where a turn stands (`Back.antt`): the index, the place in out, out's bytes, and what is known of them. It is the loop's variant, ordered by the index
 --     I t          what is had at the head of a turn.        more, ends       a turn that writes a part, and the turn that leaves the loop, with the rest of the body
 -- A `&[Part]` and a `&[u8]` are Copy: what each owns is had as often as it is asked for. The count of out never changes, and its machine value is spelled by m, the length at entry.
@@ -54,9 +54,9 @@ use denote.Exit.{yes}
 use Rattle.buffer.specs.AtEnd.{ended}
 use Rattle.parts.specs.Parts.{signText, partText, textOf, leavesSource, Inside, partLength, trueLength, zeroPart}
 use Rattle.parts.specs.declared.Part.{Part}
-use Rattle.part_list.proofs.Back as back
-use Rattle.part_list.proofs.Lent.{Bytes, Kept, lends, comes-back}
-use Rattle.part_list.proofs.Rows.{fits-32, holds, fails}
+use Rattle.part_walk.proofs.Back as back
+use Rattle.part_walk.proofs.Lent.{Bytes, Kept, lends, comes-back}
+use Rattle.part_scan.proofs.Rows.{fits-32, holds, fails}
 use Rattle.parts.proofs.Part as T
 use Rattle.parts.proofs.Part.Laws as T′
 use Rattle.parts.proofs.Part.write_before as one
@@ -67,11 +67,11 @@ use Rattle.parts.proofs.write_sign as last
 use Rattle.parts.proofs.write_sign.Symbol as last-def
 use Rattle.parts.proofs.write_sign.Symbol.{name as #parts·write-sign}
 use Rattle.parts.proofs.write_sign.Met as last-thm
-use Rattle.part_list.proofs.write_before.Key.{name as #part-list·write-before}
-use Rattle.part_list.proofs.write_before as f
-use Rattle.part_list.proofs.write_before.Statement as stated
-use Rattle.part_list.proofs.write_before.Code as code
-use Rattle.part_list.proofs.write_before.Code.Mir as steps
+use Rattle.part_walk.proofs.write_before.Key.{name as #part-walk·write-before}
+use Rattle.part_walk.proofs.write_before as f
+use Rattle.part_walk.proofs.write_before.Statement as stated
+use Rattle.part_walk.proofs.write_before.Code as code
+use Rattle.part_walk.proofs.write_before.Code.Mir as steps
 
 abbrev stayed : Stays (f.ended .signature .params) (f.ended .kept)
 stayed = (stay-none (λ _. u32) yes, (stay-none-slice (0 ∷ []) tt (plain (λ _. T.the-row)) yes, (stay-none-slice (1 ∷ []) tt (plain (λ _. u8)) yes, (gave-slice (2 ∷ []) tt (plain (λ _. u8)), (stay-none (λ _. usize) yes, tt)))))
@@ -384,7 +384,7 @@ pub write-before-spec : {M : Type 1} → stated.statement M
 unfolding code.routine tablesOf
 write-before-spec 𝓤 H 𝓜 𝓖 𝓡 =
     entered 𝓤 H (tripleOf 𝓤 H (𝓖 .A) f.signature (f.spec 𝓤 H (𝓖 .A) (𝓜 .mem) (𝓡 .run)))
-    (tables 𝓤 H 𝓜 𝓡 code.env .C) (tables 𝓤 H 𝓜 𝓡 code.env .Λ) #part-list·write-before code.function (code.unfolded 𝓤 H 𝓜 𝓡)
+    (tables 𝓤 H 𝓜 𝓡 code.env .C) (tables 𝓤 H 𝓜 𝓡 code.env .Λ) #part-walk·write-before code.function (code.unfolded 𝓤 H 𝓜 𝓡)
     (write-before-meets 𝓤 H (𝓖 .A) (givenOf 𝓤 H 𝓜 𝓖) (𝓜 .mem) (𝓡 .run) (tablesOf 𝓤 H 𝓜 (tables 𝓤 H 𝓜 𝓡 code.env))
     (cited 𝓤 H (One 𝓤 H (𝓖 .A) (𝓜 .mem) (𝓡 .run)) 𝓜 𝓡 code.env #parts·Part·write-before one-def.routine code.calls-parts·Part·write-before (one-thm.met 𝓤 H 𝓜 𝓖 𝓡))
     (cited 𝓤 H (Last 𝓤 H (𝓖 .A) (𝓜 .mem) (𝓡 .run)) 𝓜 𝓡 code.env #parts·write-sign last-def.routine code.calls-parts·write-sign (last-thm.met 𝓤 H 𝓜 𝓖 𝓡)))

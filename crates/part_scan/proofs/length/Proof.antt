@@ -1,4 +1,4 @@
--- `part_list::length` meets its contract: a walk of its MIR, by hand, with a loop over a `&[Part]`. `scan_start` begins, and `scan_step` takes the answer on by one part in each turn. All that the proof knows of the two is that each meets its contract.
+-- `part_scan::length` meets its contract: a walk of its MIR, by hand, with a loop over a `&[Part]`. `scan_start` begins, and `scan_step` takes the answer on by one part in each turn. All that the proof knows of the two is that each meets its contract.
 --     Turn         where a turn stands: the index, the answer so far, and what is known of them. It is the loop's variant, ordered by the number of parts that are left
 --     I t          what is had at the head of a turn.        more, ends       a turn that reads a part, and the turn that leaves the loop, with the rest of the body
 -- A `&[Part]` is Copy: what it owns is had twice, one copy is kept whole for the exit, and of the other the fractured borrow is looked into and shut in each turn.
@@ -56,8 +56,8 @@ use Rattle.part_answers.specs.Answers.{measured}
 use Rattle.part_answers.specs.declared.Measured.{Measured}
 use Rattle.part_answers.proofs.Measured as S
 use Rattle.part_answers.proofs.Measured.Laws as S′
-use Rattle.part_list.proofs.Rows.{fits-32, i-fits, next-fits, fewer, holds, fails}
-use Rattle.part_list.proofs.Spelled.{spelled}
+use Rattle.part_scan.proofs.Rows.{fits-32, i-fits, next-fits, fewer, holds, fails}
+use Rattle.part_scan.proofs.Spelled.{spelled}
 use Rattle.part_answers.proofs.scan_start as begin
 use Rattle.part_answers.proofs.scan_start.Symbol as begin-def
 use Rattle.part_answers.proofs.scan_start.Symbol.{name as #part-answers·scan-start}
@@ -70,11 +70,11 @@ use Rattle.parts.specs.Parts.{zeroPart}
 use Rattle.parts.specs.declared.Part.{Part}
 use Rattle.parts.proofs.Part as T
 use Rattle.parts.proofs.Part.Laws as T′
-use Rattle.part_list.proofs.length.Key.{name as #part-list·length}
-use Rattle.part_list.proofs.length as f
-use Rattle.part_list.proofs.length.Statement as stated
-use Rattle.part_list.proofs.length.Code as code
-use Rattle.part_list.proofs.length.Code.Mir as steps
+use Rattle.part_scan.proofs.length.Key.{name as #part-scan·length}
+use Rattle.part_scan.proofs.length as f
+use Rattle.part_scan.proofs.length.Statement as stated
+use Rattle.part_scan.proofs.length.Code as code
+use Rattle.part_scan.proofs.length.Code.Mir as steps
 
 abbrev stayed : Stays (f.ended .signature .params) (f.ended .kept)
 stayed = (stay-none (λ _. u32) yes, (stay-none-slice (0 ∷ []) tt (plain (λ _. T.the-row)) yes, (stay-none (λ _. usize) yes, tt)))
@@ -324,7 +324,7 @@ pub length-spec : {M : Type 1} → stated.statement M
 unfolding code.routine tablesOf
 length-spec 𝓤 H 𝓜 𝓖 𝓡 =
     entered 𝓤 H (tripleOf 𝓤 H (𝓖 .A) f.signature (f.spec 𝓤 H (𝓖 .A) (𝓜 .mem) (𝓡 .run)))
-    (tables 𝓤 H 𝓜 𝓡 code.env .C) (tables 𝓤 H 𝓜 𝓡 code.env .Λ) #part-list·length code.function (code.unfolded 𝓤 H 𝓜 𝓡)
+    (tables 𝓤 H 𝓜 𝓡 code.env .C) (tables 𝓤 H 𝓜 𝓡 code.env .Λ) #part-scan·length code.function (code.unfolded 𝓤 H 𝓜 𝓡)
     (length-meets 𝓤 H (𝓖 .A) (givenOf 𝓤 H 𝓜 𝓖) (𝓜 .mem) (𝓡 .run) (tablesOf 𝓤 H 𝓜 (tables 𝓤 H 𝓜 𝓡 code.env))
     (cited 𝓤 H (Begin 𝓤 H (𝓖 .A) (𝓜 .mem) (𝓡 .run)) 𝓜 𝓡 code.env #part-answers·scan-start begin-def.routine code.calls-part-answers·scan-start (begin-thm.met 𝓤 H 𝓜 𝓖 𝓡))
     (cited 𝓤 H (Step 𝓤 H (𝓖 .A) (𝓜 .mem) (𝓡 .run)) 𝓜 𝓡 code.env #part-answers·scan-step step-def.routine code.calls-part-answers·scan-step (step-thm.met 𝓤 H 𝓜 𝓖 𝓡)))
