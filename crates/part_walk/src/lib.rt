@@ -3,7 +3,7 @@
 // loads, calls, the index and the test, and its proof is a walk by hand; all else is a step of parts.
 ghost use mathlib.Core.Path.{_≡_};
 ghost use Prim.Native.Nat.{_-_, _≤_};
-ghost use lib.ListN.{length, take};
+ghost use lib.ListN.{length};
 ghost use Rattle.buffer.specs.AtEnd.{ended};
 ghost use Rattle.parts.specs.Parts.{textOf, Inside, trueLength};
 use parts::Part;

@@ -1,6 +1,6 @@
 -- `part_walk::write_before` meets its contract: a walk of its MIR, by hand, with a loop over a `&[Part]` from its last part to its first. Each turn reads one part where it lies, lends out to `Part::write_before` for a lifetime of the call, and has it again at the list that the callee left (`Lent.antt`). Behind the loop out is given up for good to `write_sign`. All that the proof knows of the two callees is that each meets its contract.
 --     Turn         where a turn stands (`Back.antt`): the index, the place in out, out's bytes, and what is known of them. It is the loop's variant, ordered by the index
---     I t          what is had at the head of a turn.        more, ends       a turn that writes a part, and the turn that leaves the loop, with the rest of the body
+--     I t          what is had at the head of a turn.        more, ends       a turn that writes a part, and the turn that leaves the loop.        signs, finish       the rest of the body up to its return, and the return; apart, since in one with `ends` the walk takes three times as long to check
 -- A `&[Part]` and a `&[u8]` are Copy: what each owns is had as often as it is asked for. The count of out never changes, and its machine value is spelled by m, the length at entry.
 -- Assumes nothing.
 use mathlib.Core.Path.{_≡_, refl, sym, _∙_, ap, subst}
