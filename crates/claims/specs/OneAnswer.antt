@@ -33,7 +33,7 @@ pub record OneAnswer : Type 0 where
   -- decimal::end_at_u64, end_at_i64
   pub end-unsigned : (n : ℕ) (l : List ℕ) → One (λ (r : ℕ) (m : List ℕ). EndPromise (decimal n) l r m)
   pub end-signed : (z : ℤ) (l : List ℕ) → One (λ (r : ℕ) (m : List ℕ). EndPromise (signed z) l r m)
-  -- parts: Formatted::write, part_list::write, twelve_parts::write; Formatted::length, part_list::length and twelve_parts::length promise an equation
+  -- parts: Formatted::write, part_list::write, twelve_parts::write; Formatted::length, part_scan::length and twelve_parts::length promise an equation
   pub parts : (sign : ℕ) (ps : List Part) (src out : List ℕ) → One (λ (r : Wrote) (m : List ℕ). parting.Writes sign ps src out r m)
   -- the C edge: lgv_write, lgv_write_short; lgv_read. Its end entries are decimal's
   pub edge-write : (t : List ℕ) (a : Written) (l : List ℕ) (n v k w : ℕ) (m m′ : List ℕ) → edge.Answers t a l n v m → edge.Answers t a l k w m′ → (n ≡ k) × (v ≡ w) × (m ≡ m′)

@@ -24,17 +24,17 @@ impl Formatted {
     pub fn length(self, source: usize) -> Measured
         ensures { λ r. ⌜ r ≡ measured source (self .sign) (partsOf self) ⌝ }
     {
-        let none = part_answers::scan_start(self.sign);
-        let one = part_answers::scan_step(none, self.first, 0, source);
-        let two = part_answers::scan_step(one, self.second, 1, source);
-        part_answers::scan_step(two, self.third, 2, source)
+        let none = part_steps::scan_start(self.sign);
+        let one = part_steps::scan_step(none, self.first, 0, source);
+        let two = part_steps::scan_step(one, self.second, 1, source);
+        part_steps::scan_step(two, self.third, 2, source)
     }
 
     // The text at the start of out. Everything is checked before the first byte is written.
     pub fn write(self, src: &[u8], out: &mut [u8]) -> Wrote
         ensures { λ r. ⌜ Writes (self .sign) (partsOf self) (now (src .entry)) (now (out .entry)) r (now (out .exit)) ⌝ }
     {
-        let answer = part_answers::judge(self.length(src.len()), out.len());
+        let answer = part_steps::judge(self.length(src.len()), out.len());
         let Wrote::Done(need) = answer else {
             return answer;
         };

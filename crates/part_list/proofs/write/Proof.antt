@@ -53,19 +53,19 @@ use Rattle.part_answers.specs.declared.Wrote.{Wrote}
 use Rattle.part_answers.proofs.Measured as S
 use Rattle.part_answers.proofs.Measured.Laws as S′
 use Rattle.part_list.proofs.Judged.{has-room, is-written}
-use Rattle.part_list.proofs.Lent.{Bytes, Kept, lends, comes-back}
-use Rattle.part_list.proofs.Spelled.{spelled, spelled-wrote}
+use Rattle.part_walk.proofs.Lent.{Bytes, Kept, lends, comes-back}
+use Rattle.part_scan.proofs.Spelled.{spelled, spelled-wrote}
 use Rattle.part_answers.proofs.Answers.{left-alone}
 use Rattle.part_answers.proofs.Wrote as R
 use Rattle.part_answers.proofs.Wrote.Laws as R′
-use Rattle.part_answers.proofs.judge as judge
-use Rattle.part_answers.proofs.judge.Symbol as judge-def
-use Rattle.part_answers.proofs.judge.Symbol.{name as #part-answers·judge}
-use Rattle.part_list.proofs.length as measure
-use Rattle.part_list.proofs.length.Symbol as measure-def
-use Rattle.part_list.proofs.length.Symbol.{name as #part-list·length}
-use Rattle.part_list.proofs.length.Met as measure-thm
-use Rattle.part_answers.proofs.judge.Met as judge-thm
+use Rattle.part_steps.proofs.judge as judge
+use Rattle.part_steps.proofs.judge.Symbol as judge-def
+use Rattle.part_steps.proofs.judge.Symbol.{name as #part-steps·judge}
+use Rattle.part_scan.proofs.length as measure
+use Rattle.part_scan.proofs.length.Symbol as measure-def
+use Rattle.part_scan.proofs.length.Symbol.{name as #part-scan·length}
+use Rattle.part_scan.proofs.length.Met as measure-thm
+use Rattle.part_steps.proofs.judge.Met as judge-thm
 use Rattle.part_answers.proofs.Wrote.number as number
 use Rattle.part_answers.proofs.Wrote.number.Symbol as number-def
 use Rattle.part_answers.proofs.Wrote.number.Symbol.{name as #part-answers·Wrote·number}
@@ -77,10 +77,10 @@ use Rattle.part_answers.proofs.Wrote.value.Met as value-thm
 use Rattle.parts.specs.Parts.{textOf, Inside, trueLength}
 use Rattle.parts.specs.declared.Part.{Part}
 use Rattle.parts.proofs.Part as T
-use Rattle.part_list.proofs.write_before as fill
-use Rattle.part_list.proofs.write_before.Symbol as fill-def
-use Rattle.part_list.proofs.write_before.Symbol.{name as #part-list·write-before}
-use Rattle.part_list.proofs.write_before.Met as fill-thm
+use Rattle.part_walk.proofs.write_before as fill
+use Rattle.part_walk.proofs.write_before.Symbol as fill-def
+use Rattle.part_walk.proofs.write_before.Symbol.{name as #part-walk·write-before}
+use Rattle.part_walk.proofs.write_before.Met as fill-thm
 use Rattle.part_list.proofs.write.Key.{name as #part-list·write}
 use Rattle.part_list.proofs.write as f
 use Rattle.part_list.proofs.write.Statement as stated
@@ -292,7 +292,7 @@ module _ {M : Type 1} (𝓤 : URA M) (H : Heap 𝓤) (A : Atoms 𝓤) (W : Given
     abbrev Parting : Wrote → ℕ → List (Item 𝓤)
     Parting w k = ‵ (fat fullShare ansTy l₅ 0 (R′.lowered w)) ∷ ‵ (froom foundTy l₆ 0) ∷ ‵ (froom word l₇ 0) ∷ ‵ (froom word l₈ 0) ∷ ‵ (froom code32 l₉ 0) ∷ ‵ (fat fullShare tyBool l₁₀ 0 (vbool (eqb k 0))) ∷ Arm out
 
-    parts : Triple 𝓤 (𝓣 .C #part-answers·Wrote·value) (Value 𝓤 H A mem run) → Triple 𝓤 (𝓣 .C #part-list·write-before) (Fill 𝓤 H A mem run)
+    parts : Triple 𝓤 (𝓣 .C #part-answers·Wrote·value) (Value 𝓤 H A mem run) → Triple 𝓤 (𝓣 .C #part-walk·write-before) (Fill 𝓤 H A mem run)
         → (w : Wrote) (k : ℕ) → Is R.the-row w (R′.lowered w ∷ []) → w ≡ wrote n m sign ys → k ≡ wroteNumber w → ent 𝓤 (⋆ 𝓤 H A (Parting w k)) (Wp 𝓤 H C Λ En steps.t-7 (atReturn 𝓤 H En Post))
     parts known-value known-fill w k is answers e =
         qed W (Parting w k) ∵ exec ! C Λ En steps.t-7 (atRet En Post) $ first ! $ branches ! (load ! (from ! (stop !)) (look ! 5 refl))
@@ -340,7 +340,7 @@ module _ {M : Type 1} (𝓤 : URA M) (H : Heap 𝓤) (A : Atoms 𝓤) (W : Given
         other h z = T-not (eqb k 0) h (subst (λ (j : ℕ). Holds (eqb j 0)) (sym (e ∙ z)) (eqb-refl 0))
 
     -- the number of the answer, and the test of it
-    tests : Triple 𝓤 (𝓣 .C #part-answers·Wrote·number) (Number 𝓤 H A mem run) → Triple 𝓤 (𝓣 .C #part-answers·Wrote·value) (Value 𝓤 H A mem run) → Triple 𝓤 (𝓣 .C #part-list·write-before) (Fill 𝓤 H A mem run)
+    tests : Triple 𝓤 (𝓣 .C #part-answers·Wrote·number) (Number 𝓤 H A mem run) → Triple 𝓤 (𝓣 .C #part-answers·Wrote·value) (Value 𝓤 H A mem run) → Triple 𝓤 (𝓣 .C #part-walk·write-before) (Fill 𝓤 H A mem run)
         → (w : Wrote) → Is R.the-row w (R′.lowered w ∷ []) → w ≡ wrote n m sign ys → ent 𝓤 (⋆ 𝓤 H A (Met w out)) (Wp 𝓤 H C Λ En steps.t-5 (atReturn 𝓤 H En Post))
     tests known-number known-value known-fill w is answers =
         qed W (Met w out) ∵ exec ! C Λ En steps.t-5 (atRet En Post) $
@@ -357,7 +357,7 @@ module _ {M : Type 1} (𝓤 : URA M) (H : Heap 𝓤) (A : Atoms 𝓤) (W : Given
     abbrev Found : Measured → List (Item 𝓤)
     Found c = ‵ (froom ansTy l₅ 0) ∷ ‵ (fat fullShare foundTy l₆ 0 (S′.lowered c)) ∷ ‵ (fat fullShare word l₇ 0 (vint w64 n)) ∷ ‵ (froom word l₈ 0) ∷ ‵ (froom code32 l₉ 0) ∷ ‵ (froom tyBool l₁₀ 0) ∷ Arm out
 
-    judges : Triple 𝓤 (𝓣 .C #part-answers·judge) (Judge 𝓤 H A mem run) → Triple 𝓤 (𝓣 .C #part-answers·Wrote·number) (Number 𝓤 H A mem run) → Triple 𝓤 (𝓣 .C #part-answers·Wrote·value) (Value 𝓤 H A mem run) → Triple 𝓤 (𝓣 .C #part-list·write-before) (Fill 𝓤 H A mem run)
+    judges : Triple 𝓤 (𝓣 .C #part-steps·judge) (Judge 𝓤 H A mem run) → Triple 𝓤 (𝓣 .C #part-answers·Wrote·number) (Number 𝓤 H A mem run) → Triple 𝓤 (𝓣 .C #part-answers·Wrote·value) (Value 𝓤 H A mem run) → Triple 𝓤 (𝓣 .C #part-walk·write-before) (Fill 𝓤 H A mem run)
         → (c : Measured) → Is S.the-row c (S′.lowered c ∷ []) → c ≡ measured n sign ys → ent 𝓤 (⋆ 𝓤 H A (Found c)) (Wp 𝓤 H C Λ En steps.t-3 (atReturn 𝓤 H En Post))
     judges known-judge known-number known-value known-fill c is e =
         qed W (Found c) ∵ exec ! C Λ En steps.t-3 (atRet En Post) $
@@ -375,7 +375,7 @@ module _ {M : Type 1} (𝓤 : URA M) (H : Heap 𝓤) (A : Atoms 𝓤) (W : Given
     abbrev Fresh : List (Item 𝓤)
     Fresh = ‵ (froom ansTy l₅ 0) ∷ ‵ (froom foundTy l₆ 0) ∷ ‵ (froom word l₇ 0) ∷ ‵ (froom word l₈ 0) ∷ ‵ (froom code32 l₉ 0) ∷ ‵ (froom tyBool l₁₀ 0) ∷ Arm out
 
-    begins : Triple 𝓤 (𝓣 .C #part-list·length) (Measure 𝓤 H A mem run) → Triple 𝓤 (𝓣 .C #part-answers·judge) (Judge 𝓤 H A mem run) → Triple 𝓤 (𝓣 .C #part-answers·Wrote·number) (Number 𝓤 H A mem run) → Triple 𝓤 (𝓣 .C #part-answers·Wrote·value) (Value 𝓤 H A mem run) → Triple 𝓤 (𝓣 .C #part-list·write-before) (Fill 𝓤 H A mem run)
+    begins : Triple 𝓤 (𝓣 .C #part-scan·length) (Measure 𝓤 H A mem run) → Triple 𝓤 (𝓣 .C #part-steps·judge) (Judge 𝓤 H A mem run) → Triple 𝓤 (𝓣 .C #part-answers·Wrote·number) (Number 𝓤 H A mem run) → Triple 𝓤 (𝓣 .C #part-answers·Wrote·value) (Value 𝓤 H A mem run) → Triple 𝓤 (𝓣 .C #part-walk·write-before) (Fill 𝓤 H A mem run)
         → ent 𝓤 (⋆ 𝓤 H A Fresh) (Wp 𝓤 H C Λ En steps.t-1 (atReturn 𝓤 H En Post))
     begins known-measure known-judge known-number known-value known-fill =
         qed W Fresh ∵ exec ! C Λ En steps.t-1 (atRet En Post) $
@@ -392,7 +392,7 @@ module _ {M : Type 1} (𝓤 : URA M) (H : Heap 𝓤) (A : Atoms 𝓤) (W : Given
         keep ! (3 ∷ 4 ∷ 5 ∷ 6 ∷ 7 ∷ 8 ∷ 9 ∷ 10 ∷ 11 ∷ 12 ∷ 13 ∷ 0 ∷ 2 ∷ 14 ∷ 15 ∷ 16 ∷ 17 ∷ 18 ∷ 19 ∷ 20 ∷ 21 ∷ 22 ∷ 23 ∷ 24 ∷ 25 ∷ 26 ∷ 27 ∷ 28 ∷ 29 ∷ 30 ∷ 31 ∷ 32 ∷ 33 ∷ 34 ∷ 35 ∷ 36 ∷ 37 ∷ 38 ∷ []) $
         by ! (judges known-judge known-number known-value known-fill c (subst (λ (y : Val). Is S.the-row c (y ∷ [])) (spelled c u fit) fit) e)))))
 
-  walk : (𝓣 : Tables 𝓤 H) → Triple 𝓤 (𝓣 .C #part-list·length) (Measure 𝓤 H A mem run) → Triple 𝓤 (𝓣 .C #part-answers·judge) (Judge 𝓤 H A mem run) → Triple 𝓤 (𝓣 .C #part-answers·Wrote·number) (Number 𝓤 H A mem run) → Triple 𝓤 (𝓣 .C #part-answers·Wrote·value) (Value 𝓤 H A mem run) → Triple 𝓤 (𝓣 .C #part-list·write-before) (Fill 𝓤 H A mem run)
+  walk : (𝓣 : Tables 𝓤 H) → Triple 𝓤 (𝓣 .C #part-scan·length) (Measure 𝓤 H A mem run) → Triple 𝓤 (𝓣 .C #part-steps·judge) (Judge 𝓤 H A mem run) → Triple 𝓤 (𝓣 .C #part-answers·Wrote·number) (Number 𝓤 H A mem run) → Triple 𝓤 (𝓣 .C #part-answers·Wrote·value) (Value 𝓤 H A mem run) → Triple 𝓤 (𝓣 .C #part-walk·write-before) (Fill 𝓤 H A mem run)
       → sign < 2 ^ 32 → Is (ShrSlice (named 0) κ T.the-row) s (v ∷ []) → Is (ShrSlice (named 1) κ₁ u8) src (v₁ ∷ []) → Is (MutSlice (named 2) κ₂ u8) (x γ₂ out) (v₂ ∷ [])
       → ent 𝓤 (onEntry 𝓤 H A f.signature (κ, (κ₁, (κ₂, tt))) (q, (q₁, (q₂, tt))) a at) (WpFn 𝓤 H (𝓣 .C) (𝓣 .Λ) code.function (vint w32 sign ∷ v ∷ v₁ ∷ v₂ ∷ []) Post)
   walk 𝓣 known-measure known-judge known-number known-value known-fill fc p p₁ p₂ =
@@ -409,7 +409,7 @@ module _ {M : Type 1} (𝓤 : URA M) (H : Heap 𝓤) (A : Atoms 𝓤) (W : Given
       by ! (begins 𝓣 fc (p₁ .0 .1) (p₂ .0 .1) l₀ l₁ l₂ l₃ l₄ l₅ l₆ l₇ l₈ l₉ l₁₀ l₁₁ l₁₂ l₁₃ l₁₄ l₁₅ known-measure known-judge known-number known-value known-fill)))))))))))))))))
 
 module _ {M : Type 1} (𝓤 : URA M) (H : Heap 𝓤) (A : Atoms 𝓤) (W : Given 𝓤 H A) (mem : Memory → SProp 𝓤) (run : Routine → Fun 𝓤) where
-  write-walks : (𝓣 : Tables 𝓤 H) → Triple 𝓤 (𝓣 .C #part-list·length) (Measure 𝓤 H A mem run) → Triple 𝓤 (𝓣 .C #part-answers·judge) (Judge 𝓤 H A mem run) → Triple 𝓤 (𝓣 .C #part-answers·Wrote·number) (Number 𝓤 H A mem run) → Triple 𝓤 (𝓣 .C #part-answers·Wrote·value) (Value 𝓤 H A mem run) → Triple 𝓤 (𝓣 .C #part-list·write-before) (Fill 𝓤 H A mem run)
+  write-walks : (𝓣 : Tables 𝓤 H) → Triple 𝓤 (𝓣 .C #part-scan·length) (Measure 𝓤 H A mem run) → Triple 𝓤 (𝓣 .C #part-steps·judge) (Judge 𝓤 H A mem run) → Triple 𝓤 (𝓣 .C #part-answers·Wrote·number) (Number 𝓤 H A mem run) → Triple 𝓤 (𝓣 .C #part-answers·Wrote·value) (Value 𝓤 H A mem run) → Triple 𝓤 (𝓣 .C #part-walk·write-before) (Fill 𝓤 H A mem run)
       → Walks 𝓤 H A f.ended stayed (WpFn 𝓤 H (𝓣 .C) (𝓣 .Λ) code.function) (f.clauses 𝓤 H A mem run)
   write-walks 𝓣 known-measure known-judge known-number known-value known-fill = walked 𝓤 H A f.ended stayed (f.clauses 𝓤 H A mem run) (WpFn 𝓤 H (𝓣 .C) (𝓣 .Λ) code.function) (λ κs. (uint-vals w32, (slice-vals, (slice-vals, (slice-vals, tt)))))
       (λ κs. (uint-tells w32, (shr-slice-tells (named 0) (κs .0) T.the-row, (shr-slice-tells (named 1) (κs .1 .0) u8, (mut-slice-tells (named 2) (κs .1 .1 .0) u8, tt)))))
@@ -417,8 +417,8 @@ module _ {M : Type 1} (𝓤 : URA M) (H : Heap 𝓤) (A : Atoms 𝓤) (W : Given
       (walk 𝓤 H A W mem run (κs .0) (κs .1 .0) (κs .1 .1 .0) (qs .0) (qs .1 .0) (qs .1 .1 .0) (a .0) (a .1 .0) (a .1 .1 .0) (a .1 .1 .1 .0 .ptr .0) (a .1 .1 .1 .0 .ptr .1) (a .1 .1 .1 .0 .name) (a .1 .1 .1 .0 .now)
       𝓣 known-measure known-judge known-number known-value known-fill (are .0 .1) (are .1 .0) (are .1 .1 .0) (are .1 .1 .1 .0)))
 
-write-meets : {M : Type 1} (𝓤 : URA M) (H : Heap 𝓤) (A : Atoms 𝓤) → Given 𝓤 H A → (mem : Memory → SProp 𝓤) (run : Routine → Fun 𝓤) (𝓣 : Tables 𝓤 H) → Triple 𝓤 (𝓣 .C #part-list·length) (Measure 𝓤 H A mem run) → Triple 𝓤 (𝓣 .C #part-answers·judge) (Judge 𝓤 H A mem run)
-    → Triple 𝓤 (𝓣 .C #part-answers·Wrote·number) (Number 𝓤 H A mem run) → Triple 𝓤 (𝓣 .C #part-answers·Wrote·value) (Value 𝓤 H A mem run) → Triple 𝓤 (𝓣 .C #part-list·write-before) (Fill 𝓤 H A mem run)
+write-meets : {M : Type 1} (𝓤 : URA M) (H : Heap 𝓤) (A : Atoms 𝓤) → Given 𝓤 H A → (mem : Memory → SProp 𝓤) (run : Routine → Fun 𝓤) (𝓣 : Tables 𝓤 H) → Triple 𝓤 (𝓣 .C #part-scan·length) (Measure 𝓤 H A mem run) → Triple 𝓤 (𝓣 .C #part-steps·judge) (Judge 𝓤 H A mem run)
+    → Triple 𝓤 (𝓣 .C #part-answers·Wrote·number) (Number 𝓤 H A mem run) → Triple 𝓤 (𝓣 .C #part-answers·Wrote·value) (Value 𝓤 H A mem run) → Triple 𝓤 (𝓣 .C #part-walk·write-before) (Fill 𝓤 H A mem run)
     → Meets 𝓤 H A f.signature (WpFn 𝓤 H (𝓣 .C) (𝓣 .Λ) code.function) (f.spec 𝓤 H A mem run)
 write-meets 𝓤 H A W mem run 𝓣 known-measure known-judge known-number known-value known-fill =
     walk-meets 𝓤 H A f.ended stayed W (goes-none 𝓤 H A W 3 (λ _. u32) yes (λ κs x f. refl), (goes-none-slice 𝓤 H A W 3 (0 ∷ []) tt (plain (λ _. T.the-row)) yes, (goes-none-slice 𝓤 H A W 3 (1 ∷ []) tt (plain (λ _. u8)) yes, (goes-slice 𝓤 H A W 3 2 tt (plain (λ _. u8)), tt)))) (f.clauses 𝓤 H A mem run)
@@ -430,8 +430,8 @@ write-spec 𝓤 H 𝓜 𝓖 𝓡 =
     entered 𝓤 H (tripleOf 𝓤 H (𝓖 .A) f.signature (f.spec 𝓤 H (𝓖 .A) (𝓜 .mem) (𝓡 .run)))
     (tables 𝓤 H 𝓜 𝓡 code.env .C) (tables 𝓤 H 𝓜 𝓡 code.env .Λ) #part-list·write code.function (code.unfolded 𝓤 H 𝓜 𝓡)
     (write-meets 𝓤 H (𝓖 .A) (givenOf 𝓤 H 𝓜 𝓖) (𝓜 .mem) (𝓡 .run) (tablesOf 𝓤 H 𝓜 (tables 𝓤 H 𝓜 𝓡 code.env))
-    (cited 𝓤 H (Measure 𝓤 H (𝓖 .A) (𝓜 .mem) (𝓡 .run)) 𝓜 𝓡 code.env #part-list·length measure-def.routine code.calls-part-list·length (measure-thm.met 𝓤 H 𝓜 𝓖 𝓡))
-    (cited 𝓤 H (Judge 𝓤 H (𝓖 .A) (𝓜 .mem) (𝓡 .run)) 𝓜 𝓡 code.env #part-answers·judge judge-def.routine code.calls-part-answers·judge (judge-thm.met 𝓤 H 𝓜 𝓖 𝓡))
+    (cited 𝓤 H (Measure 𝓤 H (𝓖 .A) (𝓜 .mem) (𝓡 .run)) 𝓜 𝓡 code.env #part-scan·length measure-def.routine code.calls-part-scan·length (measure-thm.met 𝓤 H 𝓜 𝓖 𝓡))
+    (cited 𝓤 H (Judge 𝓤 H (𝓖 .A) (𝓜 .mem) (𝓡 .run)) 𝓜 𝓡 code.env #part-steps·judge judge-def.routine code.calls-part-steps·judge (judge-thm.met 𝓤 H 𝓜 𝓖 𝓡))
     (cited 𝓤 H (Number 𝓤 H (𝓖 .A) (𝓜 .mem) (𝓡 .run)) 𝓜 𝓡 code.env #part-answers·Wrote·number number-def.routine code.calls-part-answers·Wrote·number (number-thm.met 𝓤 H 𝓜 𝓖 𝓡))
     (cited 𝓤 H (Value 𝓤 H (𝓖 .A) (𝓜 .mem) (𝓡 .run)) 𝓜 𝓡 code.env #part-answers·Wrote·value value-def.routine code.calls-part-answers·Wrote·value (value-thm.met 𝓤 H 𝓜 𝓖 𝓡))
-    (cited 𝓤 H (Fill 𝓤 H (𝓖 .A) (𝓜 .mem) (𝓡 .run)) 𝓜 𝓡 code.env #part-list·write-before fill-def.routine code.calls-part-list·write-before (fill-thm.met 𝓤 H 𝓜 𝓖 𝓡)))
+    (cited 𝓤 H (Fill 𝓤 H (𝓖 .A) (𝓜 .mem) (𝓡 .run)) 𝓜 𝓡 code.env #part-walk·write-before fill-def.routine code.calls-part-walk·write-before (fill-thm.met 𝓤 H 𝓜 𝓖 𝓡)))

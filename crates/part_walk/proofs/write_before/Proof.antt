@@ -1,6 +1,6 @@
--- `part_list::write_before` meets its contract: a walk of its MIR, by hand, with a loop over a `&[Part]` from its last part to its first. Each turn reads one part where it lies, lends out to `Part::write_before` for a lifetime of the call, and has it again at the list that the callee left (`Lent.antt`). Behind the loop out is given up for good to `write_sign`. All that the proof knows of the two callees is that each meets its contract.
+-- `part_walk::write_before` meets its contract: a walk of its MIR, by hand, with a loop over a `&[Part]` from its last part to its first. Each turn reads one part where it lies, lends out to `Part::write_before` for a lifetime of the call, and has it again at the list that the callee left (`Lent.antt`). Behind the loop out is given up for good to `write_sign`. All that the proof knows of the two callees is that each meets its contract.
 --     Turn         where a turn stands (`Back.antt`): the index, the place in out, out's bytes, and what is known of them. It is the loop's variant, ordered by the index
---     I t          what is had at the head of a turn.        more, ends       a turn that writes a part, and the turn that leaves the loop, with the rest of the body
+--     I t          what is had at the head of a turn.        more, ends       a turn that writes a part, and the turn that leaves the loop.        signs, finish       the rest of the body up to its return, and the return; apart, since in one with `ends` the walk takes three times as long to check
 -- A `&[Part]` and a `&[u8]` are Copy: what each owns is had as often as it is asked for. The count of out never changes, and its machine value is spelled by m, the length at entry.
 -- Assumes nothing.
 use mathlib.Core.Path.{_≡_, refl, sym, _∙_, ap, subst}
@@ -54,9 +54,9 @@ use denote.Exit.{yes}
 use Rattle.buffer.specs.AtEnd.{ended}
 use Rattle.parts.specs.Parts.{signText, partText, textOf, leavesSource, Inside, partLength, trueLength, zeroPart}
 use Rattle.parts.specs.declared.Part.{Part}
-use Rattle.part_list.proofs.Back as back
-use Rattle.part_list.proofs.Lent.{Bytes, Kept, lends, comes-back}
-use Rattle.part_list.proofs.Rows.{fits-32, holds, fails}
+use Rattle.part_walk.proofs.Back as back
+use Rattle.part_walk.proofs.Lent.{Bytes, Kept, lends, comes-back}
+use Rattle.part_scan.proofs.Rows.{fits-32, holds, fails}
 use Rattle.parts.proofs.Part as T
 use Rattle.parts.proofs.Part.Laws as T′
 use Rattle.parts.proofs.Part.write_before as one
@@ -67,11 +67,11 @@ use Rattle.parts.proofs.write_sign as last
 use Rattle.parts.proofs.write_sign.Symbol as last-def
 use Rattle.parts.proofs.write_sign.Symbol.{name as #parts·write-sign}
 use Rattle.parts.proofs.write_sign.Met as last-thm
-use Rattle.part_list.proofs.write_before.Key.{name as #part-list·write-before}
-use Rattle.part_list.proofs.write_before as f
-use Rattle.part_list.proofs.write_before.Statement as stated
-use Rattle.part_list.proofs.write_before.Code as code
-use Rattle.part_list.proofs.write_before.Code.Mir as steps
+use Rattle.part_walk.proofs.write_before.Key.{name as #part-walk·write-before}
+use Rattle.part_walk.proofs.write_before as f
+use Rattle.part_walk.proofs.write_before.Statement as stated
+use Rattle.part_walk.proofs.write_before.Code as code
+use Rattle.part_walk.proofs.write_before.Code.Mir as steps
 
 abbrev stayed : Stays (f.ended .signature .params) (f.ended .kept)
 stayed = (stay-none (λ _. u32) yes, (stay-none-slice (0 ∷ []) tt (plain (λ _. T.the-row)) yes, (stay-none-slice (1 ∷ []) tt (plain (λ _. u8)) yes, (gave-slice (2 ∷ []) tt (plain (λ _. u8)), (stay-none (λ _. usize) yes, tt)))))
@@ -295,14 +295,23 @@ module _ {M : Type 1} (𝓤 : URA M) (H : Heap 𝓤) (A : Atoms 𝓤) (W : Given
         keep ! (8 ∷ 9 ∷ 10 ∷ 11 ∷ 12 ∷ 13 ∷ 14 ∷ 15 ∷ 6 ∷ 7 ∷ 3 ∷ 5 ∷ 1 ∷ 0 ∷ 16 ∷ 17 ∷ 18 ∷ 19 ∷ 20 ∷ 21 ∷ 22 ∷ 23 ∷ 24 ∷ 25 ∷ 26 ∷ 27 ∷ 28 ∷ 29 ∷ 30 ∷ 31 ∷ 32 ∷ 33 ∷ 34 ∷ 35 ∷ 36 ∷ 37 ∷ 38 ∷ 39 ∷ 40 ∷ []) $
         again ! Less I t (back.next sign (src .now) out end ys inside t l r (ws .1 .1 .0) e) (omega (arith, l))))))))))))
 
-    -- the turn that leaves the loop, and the rest of the body
-    ends : (t : State) → (0 < t .i → ⊥) → ent 𝓤 (⋆ 𝓤 H A (I t)) (Wp 𝓤 H C Λ En steps.turn-1 (After t))
-    unfolding afterTurn
-    ends t l =
-        qed W (I t) ∵ exec ! C Λ En steps.turn-1 (anyQ (After t)) $
-        assigns ! (bin ! (lit ! tt) (load ! (from ! (stop !)) (look ! 1 refl)) tt) (from ! (stop !)) (init ! 2 refl (tt, tt)) $
-        rewrite ! 2 (λ (y : Bool). ‵ (fat fullShare tyBool l₈ 0 (vbool y))) (fails (ltb 0 (t .i)) (λ c. l (ltb→lt 0 (t .i) c))) refl $
-        leaves-loop ! (load ! (from ! (stop !)) (look ! 2 refl)) $ exec ! C Λ En steps.t-4 (atRet En Post) $
+    -- behind write_sign: each local beside that it dies, in their order; the result, the tokens and what is still owned
+    abbrev Over : ℕ → Val → List ℕ → List (Item 𝓤)
+    Over r u zs = ‵ (fat fullShare word l₀ 0 u) ∷ ‵ (fdies word l₀) ∷ ‵ (froom code32 l₁ 0) ∷ ‵ (fdies code32 l₁) ∷ ‵ (froom listTy l₂ 0) ∷ ‵ (fdies listTy l₂) ∷ ‵ (froom srcTy l₃ 0) ∷ ‵ (fdies srcTy l₃) ∷ ‵ (froom outTy l₄ 0) ∷ ‵ (fdies outTy l₄) ∷ ‵ (froom word l₅ 0) ∷ ‵ (fdies word l₅)
+        ∷ ‵ (froom word l₆ 0) ∷ ‵ (fdies word l₆) ∷ ‵ (froom word l₇ 0) ∷ ‵ (fdies word l₇) ∷ ‵ (froom tyBool l₈ 0) ∷ ‵ (fdies tyBool l₈) ∷ ‵ (froom word l₉ 0) ∷ ‵ (fdies word l₉) ∷ ‵ (froom tyPtr l₁₀ 0) ∷ ‵ (fdies tyPtr l₁₀) ∷ ‵ (froom partTy l₁₁ 0) ∷ ‵ (fdies partTy l₁₁)
+        ∷ ‵ (froom ptrTy l₁₂ 0) ∷ ‵ (fdies ptrTy l₁₂) ∷ ‵ (froom (sliceTy ptrTy) l₁₃ 0) ∷ ‵ (fdies (sliceTy ptrTy) l₁₃) ∷ ‵ (froom ptrTy l₁₄ 0) ∷ ‵ (fdies ptrTy l₁₄) ∷ ‵ (froom (sliceTy ptrTy) l₁₅ 0) ∷ ‵ (fdies (sliceTy ptrTy) l₁₅)
+        ∷ ‵ (usize .own r (u ∷ [])) ∷ ‵ (flft κ q) ∷ ‵ (flft κ₁ q₁) ∷ ‵ (flft κ₂ q₂) ∷ ‵ ListOwn ∷ ‵ SrcOwn ∷ ‵ (finally u8 γ₂ zs) ∷ []
+
+    finish : (r : ℕ) (u : Val) (zs : List ℕ) → length zs ≡ m → Said r zs → ent 𝓤 (⋆ 𝓤 H A (Over r u zs)) (Wp 𝓤 H C Λ En steps.t-7 (atReturn 𝓤 H En Post))
+    finish r u zs same e =
+        qed W (Over r u zs) ∵ exec ! C Λ En steps.t-7 (atRet En Post) $ returns ! (look ! 0 refl) $ forget ! 0 refl $
+        free1 ! $ free1 ! $ free1 ! $ free1 ! $ free1 ! $ free1 ! $ free1 ! $ free1 ! $ free1 ! $ free1 ! $ free1 ! $ free1 ! $ free1 ! $ free1 ! $ free1 ! $ free1 ! $ free0 ! $
+        by ! (exits r u zs fc fe same e)
+
+    -- the rest of the body behind the loop, up to its return
+    signs : (t : State) → (0 < t .i → ⊥) → ent 𝓤 (⋆ 𝓤 H A (I t)) (Wp 𝓤 H C Λ En steps.t-4 (atReturn 𝓤 H En Post))
+    signs t l =
+        qed W (I t) ∵ exec ! C Λ En steps.t-4 (atRet En Post) $
         assigns ! (addr ! (from ! (fld ! refl (hop ! (look-in ! 16 (sub ! 0 refl (whole !))) (stop !))))) (from ! (stop !)) (init ! 21 refl (tt, tt)) $
         assigns ! (agg ! (and-then ! (load ! (from ! (stop !)) (look ! 21 refl)) (and-then ! (load ! (from ! (fld ! refl (stop !))) (look-in ! 16 (sub ! 1 refl (whole !)))) (no-more !)))) (from ! (stop !)) (init ! 22 refl (tt, (tt, (record { fits = g₂ .0 }, tt)))) $
         -- out is given up for good
@@ -317,11 +326,19 @@ module _ {M : Type 1} (𝓤 : URA M) (H : Heap 𝓤) (A : Atoms 𝓤) (W : Given
         move ! (2 ∷ []) $ split ! $ split ! $ move ! (2 ∷ []) $ peeks ! usize (Is usize) (shows 𝓤 H A usize) r (u ∷ []) (λ fit.
         -- [the result; out's token; true; out's last list; …; _6; _7; _8; _9; _10; _11; _12; _13; list's token; the fractured borrow; src's token; what src owns; _2; _3; _4; what list owns; _0; _1; _5; _14; _15; …]
         land ! (from ! (stop !)) (init ! 21 refl (uint-lawful 𝓤 H A W w64 .typed r _ fit .0)) $
-        returns ! (look ! 21 refl) $ forget ! 5 refl $ forget ! 6 refl $ forget ! 7 refl $ forget ! 17 refl $ forget ! 18 refl $ forget ! 19 refl $ forget ! 21 refl $ forget ! 22 refl $ forget ! 23 refl $ forget ! 24 refl $ forget ! 25 refl $
+        forget ! 5 refl $ forget ! 6 refl $ forget ! 17 refl $ forget ! 18 refl $ forget ! 19 refl $ forget ! 22 refl $ forget ! 23 refl $ forget ! 24 refl $ forget ! 25 refl $
         -- each local beside that it dies, in their order
         keep ! (21 ∷ 26 ∷ 22 ∷ 27 ∷ 17 ∷ 28 ∷ 18 ∷ 29 ∷ 19 ∷ 30 ∷ 23 ∷ 31 ∷ 5 ∷ 32 ∷ 6 ∷ 33 ∷ 7 ∷ 34 ∷ 8 ∷ 35 ∷ 9 ∷ 36 ∷ 10 ∷ 37 ∷ 11 ∷ 38 ∷ 12 ∷ 39 ∷ 24 ∷ 40 ∷ 25 ∷ 41 ∷ 0 ∷ 13 ∷ 15 ∷ 1 ∷ 20 ∷ 16 ∷ 3 ∷ []) $
-        free1 ! $ free1 ! $ free1 ! $ free1 ! $ free1 ! $ free1 ! $ free1 ! $ free1 ! $ free1 ! $ free1 ! $ free1 ! $ free1 ! $ free1 ! $ free1 ! $ free1 ! $ free1 ! $ free0 ! $
-        by ! (exits r u (ws .1 .0) fc fe (len ∙ t .rest .same) (back.all-written sign (src .now) out end ys inside t l e))))))))
+        by ! (finish r u (ws .1 .0) (len ∙ t .rest .same) (back.all-written sign (src .now) out end ys inside t l e))))))))
+
+    -- the turn that leaves the loop
+    ends : (t : State) → (0 < t .i → ⊥) → ent 𝓤 (⋆ 𝓤 H A (I t)) (Wp 𝓤 H C Λ En steps.turn-1 (After t))
+    unfolding afterTurn
+    ends t l =
+        qed W (I t) ∵ exec ! C Λ En steps.turn-1 (anyQ (After t)) $
+        assigns ! (bin ! (lit ! tt) (load ! (from ! (stop !)) (look ! 1 refl)) tt) (from ! (stop !)) (init ! 2 refl (tt, tt)) $
+        rewrite ! 2 (λ (y : Bool). ‵ (fat fullShare tyBool l₈ 0 (vbool y))) (fails (ltb 0 (t .i)) (λ c. l (ltb→lt 0 (t .i) c))) refl $
+        leaves-loop ! (load ! (from ! (stop !)) (look ! 2 refl)) $ forget ! 2 refl $ by ! (signs t l)
 
     turn-at : (t : State) (y : Bool) → ltb 0 (t .i) ≡ y → ent 𝓤 (⋆ 𝓤 H A (I t)) (Wp 𝓤 H C Λ En steps.turn-1 (After t))
     turn-at t true e = more t (ltb→lt 0 (t .i) (subst Holds (sym e) tt))
@@ -367,7 +384,7 @@ pub write-before-spec : {M : Type 1} → stated.statement M
 unfolding code.routine tablesOf
 write-before-spec 𝓤 H 𝓜 𝓖 𝓡 =
     entered 𝓤 H (tripleOf 𝓤 H (𝓖 .A) f.signature (f.spec 𝓤 H (𝓖 .A) (𝓜 .mem) (𝓡 .run)))
-    (tables 𝓤 H 𝓜 𝓡 code.env .C) (tables 𝓤 H 𝓜 𝓡 code.env .Λ) #part-list·write-before code.function (code.unfolded 𝓤 H 𝓜 𝓡)
+    (tables 𝓤 H 𝓜 𝓡 code.env .C) (tables 𝓤 H 𝓜 𝓡 code.env .Λ) #part-walk·write-before code.function (code.unfolded 𝓤 H 𝓜 𝓡)
     (write-before-meets 𝓤 H (𝓖 .A) (givenOf 𝓤 H 𝓜 𝓖) (𝓜 .mem) (𝓡 .run) (tablesOf 𝓤 H 𝓜 (tables 𝓤 H 𝓜 𝓡 code.env))
     (cited 𝓤 H (One 𝓤 H (𝓖 .A) (𝓜 .mem) (𝓡 .run)) 𝓜 𝓡 code.env #parts·Part·write-before one-def.routine code.calls-parts·Part·write-before (one-thm.met 𝓤 H 𝓜 𝓖 𝓡))
     (cited 𝓤 H (Last 𝓤 H (𝓖 .A) (𝓜 .mem) (𝓡 .run)) 𝓜 𝓡 code.env #parts·write-sign last-def.routine code.calls-parts·write-sign (last-thm.met 𝓤 H 𝓜 𝓖 𝓡)))

@@ -1,12 +1,12 @@
--- `part_answers::scan_step` meets its contract: a law of one part more for each way that it goes. Assumes nothing.
+-- `part_steps::scan_step` meets its contract: a law of one part more for each way that it goes. Assumes nothing.
 use mathlib.Core.Path.{sym, ap, _∙_}
 use Prim.Native.Nat.{ℕ, _+_}
 use borrow.Author.Needs.{needs}
 use Rattle.parts.specs.Parts.{held}
 use Rattle.part_answers.specs.declared.Measured.the-variants as measure
 use Rattle.part_answers.proofs.Answers.{more-unknown, more-refused, more-out, more-leaves, more-done}
-use Rattle.part_answers.proofs.scan_step.Statement.{statement}
-use Rattle.part_answers.proofs.scan_step.Tie as tie
+use Rattle.part_steps.proofs.scan_step.Statement.{statement}
+use Rattle.part_steps.proofs.scan_step.Tie as tie
 
 returns : tie.Need-returns
 returns c sign ps n e = sym (more-unknown _ sign ps _ (c .if1 .taken))

@@ -1,9 +1,9 @@
--- `part_answers::scan_start` meets its contract. Assumes nothing.
+-- `part_steps::scan_start` meets its contract. Assumes nothing.
 use mathlib.Core.Path.{sym}
 use borrow.Author.Needs.{needs}
 use Rattle.part_answers.proofs.Answers.{sign-unknown, sign-known}
-use Rattle.part_answers.proofs.scan_start.Statement.{statement}
-use Rattle.part_answers.proofs.scan_start.Tie as tie
+use Rattle.part_steps.proofs.scan_start.Statement.{statement}
+use Rattle.part_steps.proofs.scan_start.Tie as tie
 
 sign-length-requires : tie.Need-sign-length-requires
 sign-length-requires c κs = search needs

@@ -1,4 +1,4 @@
--- `part_list::length` meets its contract: a walk of its MIR, by hand, with a loop over a `&[Part]`. `scan_start` begins, and `scan_step` takes the answer on by one part in each turn. All that the proof knows of the two is that each meets its contract.
+-- `part_scan::length` meets its contract: a walk of its MIR, by hand, with a loop over a `&[Part]`. `scan_start` begins, and `scan_step` takes the answer on by one part in each turn. All that the proof knows of the two is that each meets its contract.
 --     Turn         where a turn stands: the index, the answer so far, and what is known of them. It is the loop's variant, ordered by the number of parts that are left
 --     I t          what is had at the head of a turn.        more, ends       a turn that reads a part, and the turn that leaves the loop, with the rest of the body
 -- A `&[Part]` is Copy: what it owns is had twice, one copy is kept whole for the exit, and of the other the fractured borrow is looked into and shut in each turn.
@@ -56,25 +56,25 @@ use Rattle.part_answers.specs.Answers.{measured}
 use Rattle.part_answers.specs.declared.Measured.{Measured}
 use Rattle.part_answers.proofs.Measured as S
 use Rattle.part_answers.proofs.Measured.Laws as S′
-use Rattle.part_list.proofs.Rows.{fits-32, i-fits, next-fits, fewer, holds, fails}
-use Rattle.part_list.proofs.Spelled.{spelled}
-use Rattle.part_answers.proofs.scan_start as begin
-use Rattle.part_answers.proofs.scan_start.Symbol as begin-def
-use Rattle.part_answers.proofs.scan_start.Symbol.{name as #part-answers·scan-start}
-use Rattle.part_answers.proofs.scan_start.Met as begin-thm
-use Rattle.part_answers.proofs.scan_step as step
-use Rattle.part_answers.proofs.scan_step.Symbol as step-def
-use Rattle.part_answers.proofs.scan_step.Symbol.{name as #part-answers·scan-step}
-use Rattle.part_answers.proofs.scan_step.Met as step-thm
+use Rattle.part_scan.proofs.Rows.{fits-32, i-fits, next-fits, fewer, holds, fails}
+use Rattle.part_scan.proofs.Spelled.{spelled}
+use Rattle.part_steps.proofs.scan_start as begin
+use Rattle.part_steps.proofs.scan_start.Symbol as begin-def
+use Rattle.part_steps.proofs.scan_start.Symbol.{name as #part-steps·scan-start}
+use Rattle.part_steps.proofs.scan_start.Met as begin-thm
+use Rattle.part_steps.proofs.scan_step as step
+use Rattle.part_steps.proofs.scan_step.Symbol as step-def
+use Rattle.part_steps.proofs.scan_step.Symbol.{name as #part-steps·scan-step}
+use Rattle.part_steps.proofs.scan_step.Met as step-thm
 use Rattle.parts.specs.Parts.{zeroPart}
 use Rattle.parts.specs.declared.Part.{Part}
 use Rattle.parts.proofs.Part as T
 use Rattle.parts.proofs.Part.Laws as T′
-use Rattle.part_list.proofs.length.Key.{name as #part-list·length}
-use Rattle.part_list.proofs.length as f
-use Rattle.part_list.proofs.length.Statement as stated
-use Rattle.part_list.proofs.length.Code as code
-use Rattle.part_list.proofs.length.Code.Mir as steps
+use Rattle.part_scan.proofs.length.Key.{name as #part-scan·length}
+use Rattle.part_scan.proofs.length as f
+use Rattle.part_scan.proofs.length.Statement as stated
+use Rattle.part_scan.proofs.length.Code as code
+use Rattle.part_scan.proofs.length.Code.Mir as steps
 
 abbrev stayed : Stays (f.ended .signature .params) (f.ended .kept)
 stayed = (stay-none (λ _. u32) yes, (stay-none-slice (0 ∷ []) tt (plain (λ _. T.the-row)) yes, (stay-none (λ _. usize) yes, tt)))
@@ -182,7 +182,7 @@ module _ {M : Type 1} (𝓤 : URA M) (H : Heap 𝓤) (A : Atoms 𝓤) (W : Given
   abbrev here : State → Part
   here t = getD ys (t .i) (zeroPart 0)
 
-  module _ (𝓣 : Tables 𝓤 H) (known-step : Triple 𝓤 (𝓣 .C #part-answers·scan-step) (Step 𝓤 H A mem run)) (fc : sign < 2 ^ 32) (g : Room T.the-row n) (fs : source < 2 ^ 64) (l₀ l₁ l₂ l₃ l₄ l₅ l₆ l₇ l₈ l₉ : ℕ) where
+  module _ (𝓣 : Tables 𝓤 H) (known-step : Triple 𝓤 (𝓣 .C #part-steps·scan-step) (Step 𝓤 H A mem run)) (fc : sign < 2 ^ 32) (g : Room T.the-row n) (fs : source < 2 ^ 64) (l₀ l₁ l₂ l₃ l₄ l₅ l₆ l₇ l₈ l₉ : ℕ) where
     abbrev C : Calls 𝓤 H
     C = 𝓣 .C
 
@@ -288,7 +288,7 @@ module _ {M : Type 1} (𝓤 : URA M) (H : Heap 𝓤) (A : Atoms 𝓤) (W : Given
         first ! $ by ! (looped (record { i = 0; past = r; good = good; inv = e source }))
 
     -- the call of `scan_start`
-    begins : Triple 𝓤 (𝓣 .C #part-answers·scan-start) (Begin 𝓤 H A mem run) → ent 𝓤 (⋆ 𝓤 H A (‵ (froom ansTy l₄ 0) ∷ Entered)) (Wp 𝓤 H C Λ En steps.t-1 (atReturn 𝓤 H En Post))
+    begins : Triple 𝓤 (𝓣 .C #part-steps·scan-start) (Begin 𝓤 H A mem run) → ent 𝓤 (⋆ 𝓤 H A (‵ (froom ansTy l₄ 0) ∷ Entered)) (Wp 𝓤 H C Λ En steps.t-1 (atReturn 𝓤 H En Post))
     begins known =
         qed W (‵ (froom ansTy l₄ 0) ∷ Entered) ∵ exec ! C Λ En steps.t-1 (atRet En Post) $
         use0 W (raw (Begin 𝓤 H A mem run .pre (to-begin 𝓤 H A W mem run sign))) (asked-begin 𝓤 H A W mem run sign fc) $
@@ -301,7 +301,7 @@ module _ {M : Type 1} (𝓤 : URA M) (H : Heap 𝓤) (A : Atoms 𝓤) (W : Given
         rewrite ! 0 (λ (x : Val). ‵ (fat fullShare ansTy l₄ 0 x)) (spelled r u fit) refl $
         by ! (begun r (subst (λ (x : Val). Is S.the-row r (x ∷ [])) (spelled r u fit) fit) e)))))
 
-  walk : (𝓣 : Tables 𝓤 H) → Triple 𝓤 (𝓣 .C #part-answers·scan-start) (Begin 𝓤 H A mem run) → Triple 𝓤 (𝓣 .C #part-answers·scan-step) (Step 𝓤 H A mem run)
+  walk : (𝓣 : Tables 𝓤 H) → Triple 𝓤 (𝓣 .C #part-steps·scan-start) (Begin 𝓤 H A mem run) → Triple 𝓤 (𝓣 .C #part-steps·scan-step) (Step 𝓤 H A mem run)
       → sign < 2 ^ 32 → Is (ShrSlice (named 0) κ T.the-row) s (v ∷ []) → source < 2 ^ 64 → ent 𝓤 (onEntry 𝓤 H A f.signature (κ, tt) (q, tt) (sign, (s, (source, tt))) at) (WpFn 𝓤 H (𝓣 .C) (𝓣 .Λ) code.function (vint w32 sign ∷ v ∷ vint w64 source ∷ []) Post)
   walk 𝓣 known-begin known-step fc p fs =
       qed W ((‵ (flft κ q) ⊛ ‵ ftrue) ∷ ‵ (owns (u32 ∷ ShrSlice (named 0) κ T.the-row ∷ usize ∷ []) (sign, (s, (source, tt))) at) ∷ []) ∵ enter ! (𝓣 .C) (𝓣 .Λ) code.function (vint w32 sign ∷ v ∷ vint w64 source ∷ []) _ $
@@ -310,11 +310,11 @@ module _ {M : Type 1} (𝓤 : URA M) (H : Heap 𝓤) (A : Atoms 𝓤) (W : Given
       move ! (10 ∷ []) $ by ! (begins 𝓣 known-step fc (p .0 .1) fs l₀ l₁ l₂ l₃ l₄ l₅ l₆ l₇ l₈ l₉ known-begin)))))))))))
 
 module _ {M : Type 1} (𝓤 : URA M) (H : Heap 𝓤) (A : Atoms 𝓤) (W : Given 𝓤 H A) (mem : Memory → SProp 𝓤) (run : Routine → Fun 𝓤) where
-  length-walks : (𝓣 : Tables 𝓤 H) → Triple 𝓤 (𝓣 .C #part-answers·scan-start) (Begin 𝓤 H A mem run) → Triple 𝓤 (𝓣 .C #part-answers·scan-step) (Step 𝓤 H A mem run) → Walks 𝓤 H A f.ended stayed (WpFn 𝓤 H (𝓣 .C) (𝓣 .Λ) code.function) (f.clauses 𝓤 H A mem run)
+  length-walks : (𝓣 : Tables 𝓤 H) → Triple 𝓤 (𝓣 .C #part-steps·scan-start) (Begin 𝓤 H A mem run) → Triple 𝓤 (𝓣 .C #part-steps·scan-step) (Step 𝓤 H A mem run) → Walks 𝓤 H A f.ended stayed (WpFn 𝓤 H (𝓣 .C) (𝓣 .Λ) code.function) (f.clauses 𝓤 H A mem run)
   length-walks 𝓣 known-begin known-step = walked 𝓤 H A f.ended stayed (f.clauses 𝓤 H A mem run) (WpFn 𝓤 H (𝓣 .C) (𝓣 .Λ) code.function) (λ κs. (uint-vals w32, (slice-vals, (uint-vals w64, tt)))) (λ κs. (uint-tells w32, (shr-slice-tells (named 0) (κs .0) T.the-row, (uint-tells w64, tt))))
       (λ κs qs bounds a g are. via 𝓤 _ (fst∗ 𝓤 _ (emp 𝓤)) (walk 𝓤 H A W mem run (κs .0) (qs .0) (a .0) (a .1 .0 .ptr .0) (a .1 .0 .ptr .1) (a .1 .0 .name) (a .1 .0 .now) (a .1 .1 .0) 𝓣 known-begin known-step (are .0 .1) (are .1 .0) (are .1 .1 .0 .1)))
 
-length-meets : {M : Type 1} (𝓤 : URA M) (H : Heap 𝓤) (A : Atoms 𝓤) → Given 𝓤 H A → (mem : Memory → SProp 𝓤) (run : Routine → Fun 𝓤) (𝓣 : Tables 𝓤 H) → Triple 𝓤 (𝓣 .C #part-answers·scan-start) (Begin 𝓤 H A mem run) → Triple 𝓤 (𝓣 .C #part-answers·scan-step) (Step 𝓤 H A mem run)
+length-meets : {M : Type 1} (𝓤 : URA M) (H : Heap 𝓤) (A : Atoms 𝓤) → Given 𝓤 H A → (mem : Memory → SProp 𝓤) (run : Routine → Fun 𝓤) (𝓣 : Tables 𝓤 H) → Triple 𝓤 (𝓣 .C #part-steps·scan-start) (Begin 𝓤 H A mem run) → Triple 𝓤 (𝓣 .C #part-steps·scan-step) (Step 𝓤 H A mem run)
     → Meets 𝓤 H A f.signature (WpFn 𝓤 H (𝓣 .C) (𝓣 .Λ) code.function) (f.spec 𝓤 H A mem run)
 length-meets 𝓤 H A W mem run 𝓣 known-begin known-step =
     walk-meets 𝓤 H A f.ended stayed W (goes-none 𝓤 H A W 1 (λ _. u32) yes (λ κs x f. refl), (goes-none-slice 𝓤 H A W 1 (0 ∷ []) tt (plain (λ _. T.the-row)) yes, (goes-none 𝓤 H A W 1 (λ _. usize) yes (λ κs x f. refl), tt))) (f.clauses 𝓤 H A mem run)
@@ -324,7 +324,7 @@ pub length-spec : {M : Type 1} → stated.statement M
 unfolding code.routine tablesOf
 length-spec 𝓤 H 𝓜 𝓖 𝓡 =
     entered 𝓤 H (tripleOf 𝓤 H (𝓖 .A) f.signature (f.spec 𝓤 H (𝓖 .A) (𝓜 .mem) (𝓡 .run)))
-    (tables 𝓤 H 𝓜 𝓡 code.env .C) (tables 𝓤 H 𝓜 𝓡 code.env .Λ) #part-list·length code.function (code.unfolded 𝓤 H 𝓜 𝓡)
+    (tables 𝓤 H 𝓜 𝓡 code.env .C) (tables 𝓤 H 𝓜 𝓡 code.env .Λ) #part-scan·length code.function (code.unfolded 𝓤 H 𝓜 𝓡)
     (length-meets 𝓤 H (𝓖 .A) (givenOf 𝓤 H 𝓜 𝓖) (𝓜 .mem) (𝓡 .run) (tablesOf 𝓤 H 𝓜 (tables 𝓤 H 𝓜 𝓡 code.env))
-    (cited 𝓤 H (Begin 𝓤 H (𝓖 .A) (𝓜 .mem) (𝓡 .run)) 𝓜 𝓡 code.env #part-answers·scan-start begin-def.routine code.calls-part-answers·scan-start (begin-thm.met 𝓤 H 𝓜 𝓖 𝓡))
-    (cited 𝓤 H (Step 𝓤 H (𝓖 .A) (𝓜 .mem) (𝓡 .run)) 𝓜 𝓡 code.env #part-answers·scan-step step-def.routine code.calls-part-answers·scan-step (step-thm.met 𝓤 H 𝓜 𝓖 𝓡)))
+    (cited 𝓤 H (Begin 𝓤 H (𝓖 .A) (𝓜 .mem) (𝓡 .run)) 𝓜 𝓡 code.env #part-steps·scan-start begin-def.routine code.calls-part-steps·scan-start (begin-thm.met 𝓤 H 𝓜 𝓖 𝓡))
+    (cited 𝓤 H (Step 𝓤 H (𝓖 .A) (𝓜 .mem) (𝓡 .run)) 𝓜 𝓡 code.env #part-steps·scan-step step-def.routine code.calls-part-steps·scan-step (step-thm.met 𝓤 H 𝓜 𝓖 𝓡)))

@@ -1,9 +1,9 @@
--- `part_answers::judge` meets its contract. Assumes nothing.
+-- `part_steps::judge` meets its contract. Assumes nothing.
 use mathlib.Core.Path.{sym, _∙_}
 use borrow.Author.Needs.{needs}
 use Rattle.part_answers.proofs.Answers.{wrote-refused, wrote-out, wrote-no-room, wrote-room}
-use Rattle.part_answers.proofs.judge.Statement.{statement}
-use Rattle.part_answers.proofs.judge.Tie as tie
+use Rattle.part_steps.proofs.judge.Statement.{statement}
+use Rattle.part_steps.proofs.judge.Tie as tie
 
 enum-known-found : tie.Need-enum-known-found
 enum-known-found c = search needs

@@ -1,4 +1,4 @@
--- `part_list::length12` meets its contract: a walk of its MIR, by hand. The first parts of a local array are lent as a `&[Part]` for a lifetime of the call, and come back (`Twelve.antt`). All that the proof knows of `length` is that it meets its contract.
+-- `twelve_parts::length12` meets its contract: a walk of its MIR, by hand. The first parts of a local array are lent as a `&[Part]` for a lifetime of the call, and come back (`Twelve.antt`). All that the proof knows of `length` is that it meets its contract.
 -- Assumes nothing.
 use mathlib.Core.Path.{_≡_, refl, sym}
 use Prim.Native.Nat.{ℕ, _<_, _≤_, _^_}
@@ -51,15 +51,15 @@ use Rattle.part_answers.proofs.Measured.Laws as S′
 use Rattle.parts.specs.declared.Part.{Part}
 use Rattle.parts.proofs.Part as T
 use Rattle.parts.proofs.Part.Laws as T′
-use Rattle.part_list.proofs.Twelve.{Arr, arrTy, vals, lent-count, roomy, Cells, Behind, apart, together}
-use Rattle.part_list.proofs.length as measure
-use Rattle.part_list.proofs.length.Symbol as measure-def
-use Rattle.part_list.proofs.length.Symbol.{name as #part-list·length}
-use Rattle.part_list.proofs.length.Met as measure-thm
-use Rattle.part_list.proofs.length12.Key.{name as #part-list·length12}
-use Rattle.part_list.proofs.length12 as f
-use Rattle.part_list.proofs.length12.Statement as stated
-use Rattle.part_list.proofs.length12.Code as code
+use Rattle.twelve_parts.proofs.Twelve.{Arr, arrTy, vals, lent-count, roomy, Cells, Behind, apart, together}
+use Rattle.part_scan.proofs.length as measure
+use Rattle.part_scan.proofs.length.Symbol as measure-def
+use Rattle.part_scan.proofs.length.Symbol.{name as #part-scan·length}
+use Rattle.part_scan.proofs.length.Met as measure-thm
+use Rattle.twelve_parts.proofs.length12.Key.{name as #twelve-parts·length12}
+use Rattle.twelve_parts.proofs.length12 as f
+use Rattle.twelve_parts.proofs.length12.Statement as stated
+use Rattle.twelve_parts.proofs.length12.Code as code
 
 -- the array's slot
 abbrev slot : Slot 0
@@ -114,7 +114,7 @@ module _ {M : Type 1} (𝓤 : URA M) (H : Heap 𝓤) (A : Atoms 𝓤) (W : Given
   said : (l : ℕ) (γ : GName) (ν : ℕ) (r : Measured) → ent 𝓤 (ensured 𝓤 H A measure.ended (measure.clauses 𝓤 H A mem run) (ν ∷ [], tt) (sign, (s l γ, (source, tt))) tt r) (fact 𝓤 (r ≡ measured source sign ps))
   said l γ ν r = exE 𝓤 _ (λ ws. snd∗ 𝓤 (sem 𝓤 H A (lasts measure.ended (ν ∷ [], tt) (sign, (s l γ, (source, tt))) ws)) (fact 𝓤 (r ≡ measured source sign ps)))
 
-  walk : (𝓣 : Tables 𝓤 H) → Triple 𝓤 (𝓣 .C #part-list·length) (Measure 𝓤 H A mem run) → count ≤ 12 → sign < 2 ^ 32 → Is Arr ys (v ∷ []) → count < 2 ^ 64 → source < 2 ^ 64
+  walk : (𝓣 : Tables 𝓤 H) → Triple 𝓤 (𝓣 .C #part-scan·length) (Measure 𝓤 H A mem run) → count ≤ 12 → sign < 2 ^ 32 → Is Arr ys (v ∷ []) → count < 2 ^ 64 → source < 2 ^ 64
       → ent 𝓤 (onEntry 𝓤 H A f.signature tt tt (sign, (ys, (count, (source, tt)))) at) (WpFn 𝓤 H (𝓣 .C) (𝓣 .Λ) code.function (vint w32 sign ∷ v ∷ vint w64 count ∷ vint w64 source ∷ []) Post)
   walk 𝓣 known few fc p fn fs =
       qed W (‵ ftrue ∷ ‵ (owns (u32 ∷ Arr ∷ usize ∷ usize ∷ []) (sign, (ys, (count, (source, tt)))) at) ∷ []) ∵ enter ! (𝓣 .C) (𝓣 .Λ) code.function (vint w32 sign ∷ v ∷ vint w64 count ∷ vint w64 source ∷ []) _ $
@@ -154,12 +154,12 @@ module _ {M : Type 1} (𝓤 : URA M) (H : Heap 𝓤) (A : Atoms 𝓤) (W : Given
       lent = lent-count ys count len few
 
 module _ {M : Type 1} (𝓤 : URA M) (H : Heap 𝓤) (A : Atoms 𝓤) (W : Given 𝓤 H A) (mem : Memory → SProp 𝓤) (run : Routine → Fun 𝓤) where
-  length12-walks : (𝓣 : Tables 𝓤 H) → Triple 𝓤 (𝓣 .C #part-list·length) (Measure 𝓤 H A mem run) → Walks 𝓤 H A f.ended stayed (WpFn 𝓤 H (𝓣 .C) (𝓣 .Λ) code.function) (f.clauses 𝓤 H A mem run)
+  length12-walks : (𝓣 : Tables 𝓤 H) → Triple 𝓤 (𝓣 .C #part-scan·length) (Measure 𝓤 H A mem run) → Walks 𝓤 H A f.ended stayed (WpFn 𝓤 H (𝓣 .C) (𝓣 .Λ) code.function) (f.clauses 𝓤 H A mem run)
   length12-walks 𝓣 known = walked 𝓤 H A f.ended stayed (f.clauses 𝓤 H A mem run) (WpFn 𝓤 H (𝓣 .C) (𝓣 .Λ) code.function) (λ κs. (uint-vals w32, (vals, (uint-vals w64, (uint-vals w64, tt)))))
       (λ κs. (uint-tells w32, (array-tells T.the-row (LL.vals T.the-type T′.the-laws) (LL.tells T.the-type T′.the-laws) 12, (uint-tells w64, (uint-tells w64, tt)))))
       (λ κs qs bounds a g are. needs 𝓤 _ _ (λ few. walk 𝓤 H A W mem run (a .0) (a .1 .0) (a .1 .1 .0) (a .1 .1 .1 .0) 𝓣 known few (are .0 .1) (are .1 .0) (are .1 .1 .0 .1) (are .1 .1 .1 .0 .1)))
 
-length12-meets : {M : Type 1} (𝓤 : URA M) (H : Heap 𝓤) (A : Atoms 𝓤) → Given 𝓤 H A → (mem : Memory → SProp 𝓤) (run : Routine → Fun 𝓤) (𝓣 : Tables 𝓤 H) → Triple 𝓤 (𝓣 .C #part-list·length) (Measure 𝓤 H A mem run)
+length12-meets : {M : Type 1} (𝓤 : URA M) (H : Heap 𝓤) (A : Atoms 𝓤) → Given 𝓤 H A → (mem : Memory → SProp 𝓤) (run : Routine → Fun 𝓤) (𝓣 : Tables 𝓤 H) → Triple 𝓤 (𝓣 .C #part-scan·length) (Measure 𝓤 H A mem run)
     → Meets 𝓤 H A f.signature (WpFn 𝓤 H (𝓣 .C) (𝓣 .Λ) code.function) (f.spec 𝓤 H A mem run)
 length12-meets 𝓤 H A W mem run 𝓣 known =
     walk-meets 𝓤 H A f.ended stayed W (goes-none 𝓤 H A W 0 (λ _. u32) yes (λ κs x f. refl), (goes-dropped 𝓤 H A W 0 slot yes (λ κs x f. refl), (goes-none 𝓤 H A W 0 (λ _. usize) yes (λ κs x f. refl), (goes-none 𝓤 H A W 0 (λ _. usize) yes (λ κs x f. refl), tt)))) (f.clauses 𝓤 H A mem run)
@@ -169,6 +169,6 @@ pub length12-spec : {M : Type 1} → stated.statement M
 unfolding code.routine tablesOf
 length12-spec 𝓤 H 𝓜 𝓖 𝓡 =
     entered 𝓤 H (tripleOf 𝓤 H (𝓖 .A) f.signature (f.spec 𝓤 H (𝓖 .A) (𝓜 .mem) (𝓡 .run)))
-    (tables 𝓤 H 𝓜 𝓡 code.env .C) (tables 𝓤 H 𝓜 𝓡 code.env .Λ) #part-list·length12 code.function (code.unfolded 𝓤 H 𝓜 𝓡)
+    (tables 𝓤 H 𝓜 𝓡 code.env .C) (tables 𝓤 H 𝓜 𝓡 code.env .Λ) #twelve-parts·length12 code.function (code.unfolded 𝓤 H 𝓜 𝓡)
     (length12-meets 𝓤 H (𝓖 .A) (givenOf 𝓤 H 𝓜 𝓖) (𝓜 .mem) (𝓡 .run) (tablesOf 𝓤 H 𝓜 (tables 𝓤 H 𝓜 𝓡 code.env))
-    (cited 𝓤 H (Measure 𝓤 H (𝓖 .A) (𝓜 .mem) (𝓡 .run)) 𝓜 𝓡 code.env #part-list·length measure-def.routine code.calls-part-list·length (measure-thm.met 𝓤 H 𝓜 𝓖 𝓡)))
+    (cited 𝓤 H (Measure 𝓤 H (𝓖 .A) (𝓜 .mem) (𝓡 .run)) 𝓜 𝓡 code.env #part-scan·length measure-def.routine code.calls-part-scan·length (measure-thm.met 𝓤 H 𝓜 𝓖 𝓡)))

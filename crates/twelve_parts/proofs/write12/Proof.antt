@@ -1,4 +1,4 @@
--- `part_list::write12` meets its contract: a walk of its MIR, by hand. The first parts of a local array are lent as a `&[Part]` for a lifetime of the call, and come back (`Twelve.antt`). src is passed on, and out is given up for good to `write`, at its own lifetime, share and name (`gave-slice`): no lifetime is made for it, and nothing has to come back. All that the proof knows of `write` is that it meets its contract.
+-- `twelve_parts::write12` meets its contract: a walk of its MIR, by hand. The first parts of a local array are lent as a `&[Part]` for a lifetime of the call, and come back (`Twelve.antt`). src is passed on, and out is given up for good to `write`, at its own lifetime, share and name (`gave-slice`): no lifetime is made for it, and nothing has to come back. All that the proof knows of `write` is that it meets its contract.
 -- Assumes nothing.
 use mathlib.Core.Path.{_≡_, refl, sym}
 use Prim.Native.Nat.{ℕ, _<_, _≤_, _^_}
@@ -51,15 +51,15 @@ use Rattle.part_answers.proofs.Wrote.Laws as R′
 use Rattle.parts.specs.declared.Part.{Part}
 use Rattle.parts.proofs.Part as T
 use Rattle.parts.proofs.Part.Laws as T′
-use Rattle.part_list.proofs.Twelve.{Arr, arrTy, vals, lent-count, roomy, Cells, Behind, apart, together}
+use Rattle.twelve_parts.proofs.Twelve.{Arr, arrTy, vals, lent-count, roomy, Cells, Behind, apart, together}
 use Rattle.part_list.proofs.write as write
 use Rattle.part_list.proofs.write.Symbol as write-def
 use Rattle.part_list.proofs.write.Symbol.{name as #part-list·write}
 use Rattle.part_list.proofs.write.Met as write-thm
-use Rattle.part_list.proofs.write12.Key.{name as #part-list·write12}
-use Rattle.part_list.proofs.write12 as f
-use Rattle.part_list.proofs.write12.Statement as stated
-use Rattle.part_list.proofs.write12.Code as code
+use Rattle.twelve_parts.proofs.write12.Key.{name as #twelve-parts·write12}
+use Rattle.twelve_parts.proofs.write12 as f
+use Rattle.twelve_parts.proofs.write12.Statement as stated
+use Rattle.twelve_parts.proofs.write12.Code as code
 
 -- the array's slot
 abbrev slot : Slot 2
@@ -205,6 +205,6 @@ pub write12-spec : {M : Type 1} → stated.statement M
 unfolding code.routine tablesOf
 write12-spec 𝓤 H 𝓜 𝓖 𝓡 =
     entered 𝓤 H (tripleOf 𝓤 H (𝓖 .A) f.signature (f.spec 𝓤 H (𝓖 .A) (𝓜 .mem) (𝓡 .run)))
-    (tables 𝓤 H 𝓜 𝓡 code.env .C) (tables 𝓤 H 𝓜 𝓡 code.env .Λ) #part-list·write12 code.function (code.unfolded 𝓤 H 𝓜 𝓡)
+    (tables 𝓤 H 𝓜 𝓡 code.env .C) (tables 𝓤 H 𝓜 𝓡 code.env .Λ) #twelve-parts·write12 code.function (code.unfolded 𝓤 H 𝓜 𝓡)
     (write12-meets 𝓤 H (𝓖 .A) (givenOf 𝓤 H 𝓜 𝓖) (𝓜 .mem) (𝓡 .run) (tablesOf 𝓤 H 𝓜 (tables 𝓤 H 𝓜 𝓡 code.env))
     (cited 𝓤 H (Write 𝓤 H (𝓖 .A) (𝓜 .mem) (𝓡 .run)) 𝓜 𝓡 code.env #part-list·write write-def.routine code.calls-part-list·write (write-thm.met 𝓤 H 𝓜 𝓖 𝓡)))

@@ -1,0 +1,3 @@
+-- What the walks over a list of parts share.
+pub mod Rows
+pub mod Spelled

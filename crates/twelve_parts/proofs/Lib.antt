@@ -1,0 +1,2 @@
+-- What the walks over twelve parts share.
+mod Twelve
