@@ -38,7 +38,7 @@ use Rattle.scientific.proofs.Steps.{long-text, zero-text}
 use Rattle.writing.specs.Text.{minus, body, framed, textOf}
 use Rattle.writing.specs.Promise.{house, Unframed}
 use Rattle.writing.specs.declared.Options.{Options}
-use Rattle.writing.proofs.Cases.{framed-bare, house-unframed}
+use Rattle.writing.proofs.Cases.{unframes, house-unframed}
 use Rattle.claims.specs.Demand2.{OfDigits, OfText, lacking, Padded, OfOptions, OfLengths, OfSizes, RoundTrip, Asked, Refuses, OfReading}
 
 pub of-digits : OfDigits
@@ -50,7 +50,7 @@ of-digits = record { are = λ b n h. canonical b h n; only = λ b n ds h C. uniq
 unframed-text : (bits : ℕ) (z : ℤ) (format : ℕ) (o : Options) (p : Precision) → Unframed o p → textOf bits z format o ≡ signOf (minus format z) false ++ body format bits (precisionOf p) z
 unfolding textOf
 unframed-text bits z format o p U =
-    framed-bare o (minus format z) format (body format bits (precisionOf (o .precision)) z) U
+    unframes o (minus format z) format (body format bits (precisionOf (o .precision)) z) U
     ∙ ap (λ (q : Precision). signOf (minus format z) false ++ body format bits (precisionOf q) z) (U .precision)
 
 bare-text : (bits : ℕ) (z : ℤ) (format : ℕ) → textOf bits z format house ≡ signOf (minus format z) false ++ body format bits (precisionOf None) z

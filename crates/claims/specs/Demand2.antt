@@ -26,7 +26,7 @@ use Rattle.scaling.specs.Coefficient.{precisionOf}
 use Rattle.scaling.specs.declared.Precision.{Precision}
 use Rattle.scientific.specs.Layout.{point, expText}
 use Rattle.scientific.specs.Sci.{exponentOf}
-use Rattle.writing.specs.Text.{minus, body, bare, textOf}
+use Rattle.writing.specs.Text.{minus, body, unframed, textOf}
 use Rattle.writing.specs.Promise.{house, Unframed}
 use Rattle.writing.specs.declared.Options.{Options}
 
@@ -45,7 +45,7 @@ pub record OfText : Type 0 where
   pub radix-is : (bits format : ℕ) (z : ℤ) → 1 ≤ format → format ≤ 4 → textOf bits z format house ≡ radix format (pattern bits z)
   -- exponent form, with precision p or none; a negative is `-` and the text of its magnitude. Demand 3 speaks of `expText`
   pub exponent-is : (bits : ℕ) (z : ℤ) (o : Options) (p : Precision) → Unframed o p
-      → (textOf bits z 5 o ≡ bare (negative z) (expText 101 (precisionOf p) (natAbs z))) × (textOf bits z 6 o ≡ bare (negative z) (expText 69 (precisionOf p) (natAbs z)))
+      → (textOf bits z 5 o ≡ unframed (negative z) (expText 101 (precisionOf p) (natAbs z))) × (textOf bits z 6 o ≡ unframed (negative z) (expText 69 (precisionOf p) (natAbs z)))
   -- if p is at least e, the digits of n and then p - e zeros, exponent e
   pub exponent-long : (letter n p : ℕ) → exponentOf n ≤ p → expText letter (some p) n
       ≡ (ascii (n / 10 ^ exponentOf n) ∷ point p ++ lastText ascii 10 (exponentOf n) n) ++ (replicate (p - exponentOf n) 48 ++ letter ∷ decimal (exponentOf n))

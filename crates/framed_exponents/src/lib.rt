@@ -8,7 +8,7 @@ ghost use Rattle.exponent.specs.Coefficient.{Sized, scaledText};
 ghost use Rattle.scaling.specs.Coefficient.{precisionOf};
 ghost use Rattle.scientific.specs.Sci.{sci};
 ghost use Rattle.scientific.specs.Layout.{expText};
-ghost use Rattle.writing.specs.Text.{letterOf, framed, bare};
+ghost use Rattle.writing.specs.Text.{letterOf, framed, unframed};
 ghost use Rattle.writing.specs.Promise.{keptAnswer, exponentAnswer, Writes, Places};
 use exponent::Shown;
 use scaling::Precision;
@@ -29,7 +29,7 @@ fn letter_of(format: u32) -> u8
 // What was scaled, with nothing around it but a minus: its length, and in out where it has room. No scratch.
 fn write_scaled(format: u32, scaled: Scaled, negative: bool, out: &mut [u8]) -> usize
     requires { ⌜ Sized scaled ⌝ }
-    ensures { λ r. ⌜ Places (bare negative (scaledText (letterOf format) scaled)) (now (out .entry)) r (now (out .exit)) ⌝ }
+    ensures { λ r. ⌜ Places (unframed negative (scaledText (letterOf format) scaled)) (now (out .entry)) r (now (out .exit)) ⌝ }
 {
     let size = exponent::size(scaled);
     if negative {
@@ -50,7 +50,7 @@ fn write_scaled(format: u32, scaled: Scaled, negative: bool, out: &mut [u8]) -> 
 
 // The exponent form without precision, with nothing around it but a minus. No magnitude of 64 bits has an exponent of three digits: there is no refusal but NO_ROOM.
 pub fn write_bare_in_full(format: u32, n: u64, negative: bool, out: &mut [u8]) -> usize
-    ensures { λ r. ⌜ (sci none n .expo ≤ 99) × Places (bare negative (expText (letterOf format) none n)) (now (out .entry)) r (now (out .exit)) ⌝ }
+    ensures { λ r. ⌜ (sci none n .expo ≤ 99) × Places (unframed negative (expText (letterOf format) none n)) (now (out .entry)) r (now (out .exit)) ⌝ }
 {
     write_scaled(format, scaling::in_full(n), negative, out)
 }
@@ -63,7 +63,7 @@ pub fn write_bare_exponent(
     precision: Precision,
     out: &mut [u8],
 ) -> Written
-    ensures { λ r. ⌜ Writes (bare negative (expText (letterOf format) (precisionOf precision) n)) (keptAnswer (precisionOf precision) n (bare negative (expText (letterOf format) (precisionOf precision) n)) (length (now (out .entry)))) (now (out .entry)) r (now (out .exit)) ⌝ }
+    ensures { λ r. ⌜ Writes (unframed negative (expText (letterOf format) (precisionOf precision) n)) (keptAnswer (precisionOf precision) n (unframed negative (expText (letterOf format) (precisionOf precision) n)) (length (now (out .entry)))) (now (out .entry)) r (now (out .exit)) ⌝ }
 {
     let room = out.len();
     let Precision::Digits(_) = precision else {

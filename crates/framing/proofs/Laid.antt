@@ -19,22 +19,22 @@ use Rattle.padding.proofs.Padding.{padded-is, padded-length}
 use Rattle.radix.specs.Radix.{radix}
 use Rattle.radix.proofs.Lengths.{radix-most}
 use Rattle.writing.specs.Promise.{Places}
-use Rattle.writing.specs.Text.{framed, plain}
+use Rattle.writing.specs.Text.{framed, numeral}
 use Rattle.writing.specs.declared.Options.{Options}
 use Rattle.writing.proofs.Cases.{lacks-room, has-room}
 use Rattle.framing.specs.Laid.{Laid}
 
-pub plain-decimal : (format n : ℕ) → format ≡ 0 → plain format n ≡ decimal n
-plain-decimal format n e = ap (λ (f : ℕ). plain f n) e
+pub numeral-decimal : (format n : ℕ) → format ≡ 0 → numeral format n ≡ decimal n
+numeral-decimal format n e = ap (λ (f : ℕ). numeral f n) e
 
-pub plain-radix : (format n : ℕ) → (format ≡ 0 → ⊥) → plain format n ≡ radix format n
-plain-radix format n h = rw (ne-eqb format 0 h)
+pub numeral-radix : (format n : ℕ) → (format ≡ 0 → ⊥) → numeral format n ≡ radix format n
+numeral-radix format n h = rw (ne-eqb format 0 h)
 
 -- no plain form of a 64-bit number is longer than its binary
-pub plain-few : (format n : ℕ) → n < 2 ^ 64 → length (plain format n) ≤ 64
-plain-few format n h = go (eqb format 0) refl
+pub numeral-few : (format n : ℕ) → n < 2 ^ 64 → length (numeral format n) ≤ 64
+numeral-few format n h = go (eqb format 0) refl
   where
-    go : (t : Bool) → eqb format 0 ≡ t → length (plain format n) ≤ 64
+    go : (t : Bool) → eqb format 0 ≡ t → length (numeral format n) ≤ 64
     go true e = rw e (text-most ascii 10 (lit< tt) 64 n (lit< tt) (lt-of-lt-of-le h (lit≤ tt)))
     go false e = rw e (radix-most format 64 n (lit< tt) h)
 

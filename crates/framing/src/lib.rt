@@ -7,7 +7,7 @@ ghost use lib.ListN.{length};
 ghost use Rattle.buffer.specs.AtEnd.{ended};
 ghost use Rattle.digits.specs.Text.{text};
 ghost use Rattle.radix.specs.Radix.{digitByte};
-ghost use Rattle.writing.specs.Text.{framed, bare, plain};
+ghost use Rattle.writing.specs.Text.{framed, unframed, numeral};
 ghost use Rattle.writing.specs.Promise.{Places};
 ghost use Rattle.framing.specs.Laid.{Laid};
 use padding::Pad;
@@ -37,7 +37,7 @@ pub fn lay_out(options: Options, negative: bool, format: u32, count: usize) -> L
 
 // How many digits a form of a number has.
 fn count_digits(format: u32, n: u64) -> usize
-    ensures { λ r. ⌜ r ≡ length (plain format n) ⌝ }
+    ensures { λ r. ⌜ r ≡ length (numeral format n) ⌝ }
 {
     if format == 0 {
         return digits::digit_count(n);
@@ -48,7 +48,7 @@ fn count_digits(format: u32, n: u64) -> usize
 // The first letter of a hex form.
 fn hex_letter(format: u32) -> u8
     requires { ⌜ 2 < format ⌝ }
-    ensures { λ r. ⌜ (57 < r) × (r ≤ 250) × ((n : ℕ) → plain format n ≡ text (digitByte r) 16 n) ⌝ }
+    ensures { λ r. ⌜ (57 < r) × (r ≤ 250) × ((n : ℕ) → numeral format n ≡ text (digitByte r) 16 n) ⌝ }
 {
     if format == 3 {
         return b'a';
@@ -59,7 +59,7 @@ fn hex_letter(format: u32) -> u8
 // Hex digits alone: their length, and in out where they have room. The one place where hex is written, so that the compiler writes it out here.
 pub fn write_hex(format: u32, n: u64, out: &mut [u8]) -> usize
     requires { ⌜ 2 < format ⌝ }
-    ensures { λ r. ⌜ Places (plain format n) (now (out .entry)) r (now (out .exit)) ⌝ }
+    ensures { λ r. ⌜ Places (numeral format n) (now (out .entry)) r (now (out .exit)) ⌝ }
 {
     let letter = hex_letter(format);
     let len = hex::count(n);
@@ -71,8 +71,8 @@ pub fn write_hex(format: u32, n: u64, out: &mut [u8]) -> usize
 
 // The digits, so many as were counted, just before end.
 fn write_digits(format: u32, n: u64, count: usize, out: &mut [u8], end: usize) -> usize
-    requires { ⌜ (count ≡ length (plain format n)) × (count ≤ end) × (end ≤ length (now out)) ⌝ }
-    ensures { λ r. ⌜ (r ≡ end - length (plain format n)) × (now (out .exit) ≡ ended (now (out .entry)) end (plain format n)) ⌝ }
+    requires { ⌜ (count ≡ length (numeral format n)) × (count ≤ end) × (end ≤ length (now out)) ⌝ }
+    ensures { λ r. ⌜ (r ≡ end - length (numeral format n)) × (now (out .exit) ≡ ended (now (out .entry)) end (numeral format n)) ⌝ }
 {
     if format == 0 {
         return decimal::write_before(n, out, end);
@@ -90,7 +90,7 @@ fn write_digits(format: u32, n: u64, count: usize, out: &mut [u8], end: usize) -
 
 // Digits with nothing around them but a minus: their length, and in out where they have room.
 pub fn write_bare(format: u32, n: u64, negative: bool, out: &mut [u8]) -> usize
-    ensures { λ r. ⌜ Places (bare negative (plain format n)) (now (out .entry)) r (now (out .exit)) ⌝ }
+    ensures { λ r. ⌜ Places (unframed negative (numeral format n)) (now (out .entry)) r (now (out .exit)) ⌝ }
 {
     let count = count_digits(format, n);
     if negative {
@@ -112,7 +112,7 @@ pub fn write_bare(format: u32, n: u64, negative: bool, out: &mut [u8]) -> usize
 // Digits with what the options put around them: the whole length, and in out where that has room.
 pub fn write_framed(format: u32, n: u64, negative: bool, options: Options, out: &mut [u8]) -> usize
     requires { ⌜ options .fill ≤ 126 ⌝ }
-    ensures { λ r. ⌜ Places (framed options negative format (plain format n)) (now (out .entry)) r (now (out .exit)) ⌝ }
+    ensures { λ r. ⌜ Places (framed options negative format (numeral format n)) (now (out .entry)) r (now (out .exit)) ⌝ }
 {
     let fill = options.fill as u8;
     let count = count_digits(format, n);

@@ -5,7 +5,7 @@ ghost use mathlib.Core.Path.{_≡_};
 ghost use Prim.Native.Nat.{ℕ, _<_, _≤_};
 ghost use lib.ListN.{length};
 ghost use Rattle.kinds.specs.Kinds.{known, inType, meaning};
-ghost use Rattle.writing.specs.Text.{framed, plain, textOf};
+ghost use Rattle.writing.specs.Text.{framed, numeral, textOf};
 ghost use Rattle.writing.specs.Promise.{Unframed, optionsKnown, answerOf, Writes, Places};
 use kinds::Split;
 use scaling::Precision;
@@ -15,7 +15,7 @@ use writing::Written;
 // The number whose digits a form other than the exponent form shows, and whether behind a minus: the magnitude in decimal, else the pattern at the type's own bits.
 fn shown(signed: bool, bits: u32, value: u64, format: u32) -> Split
     requires { ⌜ (known bits ≡ true) × (inType signed bits (meaning 64 signed value) ≡ true) × (format ≤ 4) ⌝ }
-    ensures { λ r. ⌜ ((o : Options) → textOf bits (meaning 64 signed value) format o ≡ framed o (r .negative) format (plain format (r .magnitude))) × ((format ≡ 0 → ⊥) → r .negative ≡ false) ⌝ }
+    ensures { λ r. ⌜ ((o : Options) → textOf bits (meaning 64 signed value) format o ≡ framed o (r .negative) format (numeral format (r .magnitude))) × ((format ≡ 0 → ⊥) → r .negative ≡ false) ⌝ }
 {
     if format == 0 {
         return kinds::split_pattern(signed, value);

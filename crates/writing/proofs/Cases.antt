@@ -23,7 +23,7 @@ use Rattle.scaling.specs.declared.Precision.the-variants.{None}
 use Rattle.scientific.specs.Layout.{expText}
 use Rattle.scientific.specs.Sci.{sci}
 use Rattle.writing.specs.Promise.{house, Unframed, optionsKnown, settled, fitted, after, keptAnswer, exponentAnswer, answerOf, answer, Writes, Places}
-use Rattle.writing.specs.Text.{letterOf, framed, bare, plain, textOf}
+use Rattle.writing.specs.Text.{letterOf, framed, unframed, numeral, textOf}
 use Rattle.writing.specs.declared.Options.{Options}
 use Rattle.writing.specs.declared.Written.the-variants.{Done, TypeRefused, ValueRefused, OptionsRefused, ExponentRefused, NoRoom}
 use Rattle.writing.specs.declared.Written.{Written}
@@ -31,8 +31,8 @@ use Rattle.writing.specs.declared.Written.{Written}
 -- ---- digits with nothing around them but a minus
 
 module _ (o : Options) (negative : Bool) (format : ℕ) (digits : List ℕ) where
-  pub framed-bare : {p : Precision} → Unframed o p → framed o negative format digits ≡ bare negative digits
-  framed-bare U =
+  pub unframes : {p : Precision} → Unframed o p → framed o negative format digits ≡ unframed negative digits
+  unframes U =
       let w = U .width in
       let k : o .width - (length (signOf negative (o .plus)) + (length (prefixOf (o .alternate) format) + length digits)) ≡ 0 = omega arith in
       padded-is (o .zero) (o .fill) (o .align) (o .width) (signOf negative (o .plus)) (prefixOf (o .alternate) format) digits (plan-none (o .zero) (o .align) _ k)
@@ -69,11 +69,11 @@ module _ (bits : ℕ) (z : ℤ) (format : ℕ) (o : Options) (room : ℕ) where
   unfolding answerOf
   options-refused h = rw h
 
-  pub decimal-text : format ≡ 0 → textOf bits z format o ≡ framed o (negative z) format (plain format (natAbs z))
+  pub decimal-text : format ≡ 0 → textOf bits z format o ≡ framed o (negative z) format (numeral format (natAbs z))
   unfolding textOf
   decimal-text e = rw e
 
-  pub radix-text : (format ≡ 0 → ⊥) → format ≤ 4 → textOf bits z format o ≡ framed o false format (plain format (pattern bits z))
+  pub radix-text : (format ≡ 0 → ⊥) → format ≤ 4 → textOf bits z format o ≡ framed o false format (numeral format (pattern bits z))
   unfolding textOf
   radix-text h l = rw (ne-eqb format 0 h, le-leb format 4 l)
 
@@ -103,7 +103,7 @@ module _ (bits : ℕ) (z : ℤ) (format : ℕ) (o : Options) (room : ℕ) where
     size : s .magnitude ≡ natAbs z
     size = ap (λ (x : Split). x .magnitude) e
 
-    pub decimal-shown : format ≡ 0 → textOf bits z format o ≡ framed o (s .negative) format (plain format (s .magnitude))
+    pub decimal-shown : format ≡ 0 → textOf bits z format o ≡ framed o (s .negative) format (numeral format (s .magnitude))
     decimal-shown f = rw (sign, size) (decimal-text f)
 
     pub exponent-writes : optionsKnown format o ≡ true → (l : List ℕ) (r : Written) (l′ : List ℕ) → length l ≡ room → 4 < format
@@ -111,7 +111,7 @@ module _ (bits : ℕ) (z : ℤ) (format : ℕ) (o : Options) (room : ℕ) where
         → Writes (textOf bits z format o) (answerOf bits z format o room) l r l′
     exponent-writes k l r l′ i f W = rw (exponent-answer k f, exponent-text f, ← i, ← sign, ← size) W
 
-  pub radix-shown : (m : ℕ) → m ≡ pattern bits z → (format ≡ 0 → ⊥) → format ≤ 4 → textOf bits z format o ≡ framed o false format (plain format m)
+  pub radix-shown : (m : ℕ) → m ≡ pattern bits z → (format ≡ 0 → ⊥) → format ≤ 4 → textOf bits z format o ≡ framed o false format (numeral format m)
   radix-shown m e f h = rw e (radix-text f h)
 
 -- the fill is one byte

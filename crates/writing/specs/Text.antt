@@ -37,9 +37,9 @@ unfoldable pub textOf : ℕ → ℤ → ℕ → Options → List ℕ
 textOf bits z format o = framed o (minus format z) format (body format bits (precisionOf (o .precision)) z)
 
 -- The digits of the forms that need no more than a number, decimal and radix: what the layers below count and write.
-abbrev pub plain : ℕ → ℕ → List ℕ
-plain format n = cond (eqb format 0) (decimal n) (radix format n)
+abbrev pub numeral : ℕ → ℕ → List ℕ
+numeral format n = cond (eqb format 0) (decimal n) (radix format n)
 
 -- Digits with nothing around them but a minus.
-abbrev pub bare : Bool → List ℕ → List ℕ
-bare negative digits = signOf negative false ++ digits
+abbrev pub unframed : Bool → List ℕ → List ℕ
+unframed negative digits = signOf negative false ++ digits

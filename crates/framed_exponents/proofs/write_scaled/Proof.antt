@@ -7,7 +7,7 @@ use native.Mathlib.Omega.{arith}
 use lib.ListN.{length, set}
 use Rattle.buffer.proofs.AtEnd.{ended-front}
 use Rattle.exponent.specs.Coefficient.{scaledText}
-use Rattle.writing.specs.Text.{letterOf, bare}
+use Rattle.writing.specs.Text.{letterOf, unframed}
 use Rattle.writing.proofs.Cases.{lacks-room, has-room}
 use borrow.Author.Needs.{needs}
 use Rattle.framed_exponents.proofs.write_scaled.Statement.{statement}
@@ -24,11 +24,11 @@ long : (c : tie.After-size) → c .size .result ≡ length (shownText c)
 long c = c .size .ensures .1 (letterOf (c .before .before .args .format))
 
 -- behind a minus and without one
-below : (c : tie.Then1) → let a = c .before .before .before .args in bare (a .negative) (shownText (c .before)) ≡ 45 ∷ shownText (c .before)
-below c = ap (λ (b : Bool). bare b (shownText (c .before))) (c .if1 .taken)
+below : (c : tie.Then1) → let a = c .before .before .before .args in unframed (a .negative) (shownText (c .before)) ≡ 45 ∷ shownText (c .before)
+below c = ap (λ (b : Bool). unframed b (shownText (c .before))) (c .if1 .taken)
 
-from : (c : tie.Else1) → let a = c .before .before .before .args in bare (a .negative) (shownText (c .before)) ≡ shownText (c .before)
-from c = ap (λ (b : Bool). bare b (shownText (c .before))) (c .if1 .left)
+from : (c : tie.Else1) → let a = c .before .before .before .args in unframed (a .negative) (shownText (c .before)) ≡ shownText (c .before)
+from c = ap (λ (b : Bool). unframed b (shownText (c .before))) (c .if1 .left)
 
 add-need : tie.Need-add-need
 add-need c = record { fits = omega (arith, c .before .size .ensures .0) }

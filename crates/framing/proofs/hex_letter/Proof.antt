@@ -4,12 +4,12 @@ use Prim.Native.Nat.{ℕ}
 use native.Mathlib.Omega.{arith}
 use borrow.Author.Tests.{ne-eqb}
 use lib.Dec.{lit<, lit≤}
-use Rattle.writing.specs.Text.{plain}
+use Rattle.writing.specs.Text.{numeral}
 use Rattle.framing.proofs.hex_letter.Statement.{statement}
 use Rattle.framing.proofs.hex_letter.Tie as tie
 
 returns : tie.Need-returns
-returns c = (lit< tt, lit≤ tt, λ n. ap (λ (f : ℕ). plain f n) (c .if1 .taken))
+returns c = (lit< tt, lit≤ tt, λ n. ap (λ (f : ℕ). numeral f n) (c .if1 .taken))
 
 returns-2 : tie.Need-returns-2
 returns-2 c =

@@ -8,9 +8,9 @@ use lib.ListN.{length, set, length-set}
 use lib.Seq.{take-suc-set, drop-set-lt}
 use Rattle.buffer.specs.AtEnd.{ended}
 use Rattle.buffer.proofs.AtEnd.{length-ended}
-use Rattle.writing.specs.Text.{bare, plain}
+use Rattle.writing.specs.Text.{unframed, numeral}
 use Rattle.writing.proofs.Cases.{lacks-room, has-room}
-use Rattle.framing.proofs.Laid.{plain-few}
+use Rattle.framing.proofs.Laid.{numeral-few}
 use borrow.Author.Needs.{needs}
 use Rattle.framing.proofs.write_bare.Statement.{statement}
 use Rattle.framing.proofs.write_bare.Tie as tie
@@ -27,21 +27,21 @@ count-digits-requires : tie.Need-count-digits-requires
 count-digits-requires c κs = search needs
 
 -- the text, behind a minus and without one
-below : (c : tie.Then1) → let a = c .before .before .before .args in bare (a .negative) (plain (a .format) (a .n)) ≡ 45 ∷ plain (a .format) (a .n)
-below c = let a = c .before .before .before .args in ap (λ (b : Bool). bare b (plain (a .format) (a .n))) (c .if1 .taken)
+below : (c : tie.Then1) → let a = c .before .before .before .args in unframed (a .negative) (numeral (a .format) (a .n)) ≡ 45 ∷ numeral (a .format) (a .n)
+below c = let a = c .before .before .before .args in ap (λ (b : Bool). unframed b (numeral (a .format) (a .n))) (c .if1 .taken)
 
-from : (c : tie.Else1) → let a = c .before .before .before .args in bare (a .negative) (plain (a .format) (a .n)) ≡ plain (a .format) (a .n)
-from c = let a = c .before .before .before .args in ap (λ (b : Bool). bare b (plain (a .format) (a .n))) (c .if1 .left)
+from : (c : tie.Else1) → let a = c .before .before .before .args in unframed (a .negative) (numeral (a .format) (a .n)) ≡ numeral (a .format) (a .n)
+from c = let a = c .before .before .before .args in ap (λ (b : Bool). unframed b (numeral (a .format) (a .n))) (c .if1 .left)
 
 add-need : tie.Need-add-need
-add-need c = let s = c .before .before .before in record { fits = omega (arith, c .before .count-digits .ensures, plain-few (s .args .format) (s .args .n) (s .fits .n .fits)) }
+add-need c = let s = c .before .before .before in record { fits = omega (arith, c .before .count-digits .ensures, numeral-few (s .args .format) (s .args .n) (s .fits .n .fits)) }
 
 returns : tie.Need-returns
 returns c =
     let t = c .before in
     let a = t .before .before .before .args in
     let n = t .before .count-digits in
-    rw (below t) (lacks-room (45 ∷ plain (a .format) (a .n)) (a .out .now) (n .result + 1) (omega (arith, n .ensures)) (c .if2 .taken))
+    rw (below t) (lacks-room (45 ∷ numeral (a .format) (a .n)) (a .out .now) (n .result + 1) (omega (arith, n .ensures)) (c .if2 .taken))
 
 slice-write-out : tie.Need-slice-write-out
 slice-write-out c = search needs
@@ -56,7 +56,7 @@ same-length c =
     let e = c .before .before .before .before in
     let n = e .before .before .count-digits in
     let a = e .before .before .before .before .args in
-    let q = length-ended (set (a .out .now) 0 45) (n .result + 1) (plain (a .format) (a .n)) (omega (arith, n .ensures)) (simp length-set (e .if2 .left)) in
+    let q = length-ended (set (a .out .now) 0 45) (n .result + 1) (numeral (a .format) (a .n)) (omega (arith, n .ensures)) (simp length-set (e .if2 .left)) in
     rw (c .before .before .write-digits .ensures .1) (simp length-set at q)
 
 returns-2 : tie.Need-returns-2
@@ -66,7 +66,7 @@ returns-2 c =
     let a = t .before .before .before .args in
     let n = t .before .count-digits in
     let w = c .before .before .write-digits in
-    let d = plain (a .format) (a .n) in
+    let d = numeral (a .format) (a .n) in
     rw (below t)
     (has-room (45 ∷ d) (a .out .now) (n .result + 1) (omega (arith, n .ensures)) (w .last .1 .1 .1 .0) (e .if2 .left)
     (w .ensures .1 ∙ behind-front (a .out .now) 0 (n .result + 1) 45 d (omega (arith, n .ensures)) (e .if2 .left)))
@@ -76,7 +76,7 @@ returns-3 c =
     let t = c .before in
     let a = t .before .before .before .args in
     let n = t .before .count-digits in
-    rw (from t) (lacks-room (plain (a .format) (a .n)) (a .out .now) (n .result) (n .ensures) (c .if3 .taken))
+    rw (from t) (lacks-room (numeral (a .format) (a .n)) (a .out .now) (n .result) (n .ensures) (c .if3 .taken))
 
 write-digits-requires-2 : tie.Need-write-digits-requires-2
 write-digits-requires-2 c κs = search needs
@@ -91,7 +91,7 @@ returns-4 c =
     let a = t .before .before .before .args in
     let n = t .before .count-digits in
     let w = c .before .before .write-digits2 in
-    rw (from t) (has-room (plain (a .format) (a .n)) (a .out .now) (n .result) (n .ensures) (w .last .1 .1 .1 .0) (e .if3 .left) (w .ensures .1))
+    rw (from t) (has-room (numeral (a .format) (a .n)) (a .out .now) (n .result) (n .ensures) (w .last .1 .1 .1 .0) (e .if3 .left) (w .ensures .1))
 
 pub write-bare-spec : {M : Type 1} → statement M
 write-bare-spec =

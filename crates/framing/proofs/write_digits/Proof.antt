@@ -10,8 +10,8 @@ use lib.ListN.{length, take, drop, length-drop}
 use lib.Seq.{drop-drop, drop-length, length-take-le}
 use Rattle.buffer.specs.AtEnd.{ended, begun}
 use Rattle.writing.specs.Promise.{Places}
-use Rattle.writing.specs.Text.{plain}
-use Rattle.framing.proofs.Laid.{plain-decimal}
+use Rattle.writing.specs.Text.{numeral}
+use Rattle.framing.proofs.Laid.{numeral-decimal}
 use borrow.Author.Needs.{needs}
 use Rattle.framing.proofs.write_digits.Statement.{statement}
 use Rattle.framing.proofs.write_digits.Tie as tie
@@ -33,23 +33,23 @@ part-ended t l p a e n i h P =
     rw (q, b, d)
 
 -- digits that are known by another name are as many, and have the room that was asked for
-room : (s : tie.Start) {t : List ℕ} → plain (s .args .format) (s .args .n) ≡ t → (s .args .count ≡ length t) × (s .args .count ≤ s .args .end) × (s .args .end ≤ length (s .args .out .now))
+room : (s : tie.Start) {t : List ℕ} → numeral (s .args .format) (s .args .n) ≡ t → (s .args .count ≡ length t) × (s .args .count ≤ s .args .end) × (s .args .end ≤ length (s .args .out .now))
 room s e = (s .pre .0 ∙ ap length e, s .pre .1, s .pre .2)
 
 write-before-requires : tie.Need-write-before-requires
 write-before-requires c κs =
     let s = c .before .before .before in
-    let r = room s (plain-decimal (s .args .format) (s .args .n) (c .before .if1 .taken)) in
+    let r = room s (numeral-decimal (s .args .format) (s .args .n) (c .before .if1 .taken)) in
     (omega (arith, r .0, r .1), r .2)
 
 same-length : tie.Need-same-length
 same-length c = search needs
 
 returns : tie.Need-returns
-returns c = let s = c .before .before .before .before .before .before in rw (plain-decimal (s .args .format) (s .args .n) (c .before .before .before .before .if1 .taken)) (c .before .before .write-before .ensures)
+returns c = let s = c .before .before .before .before .before .before in rw (numeral-decimal (s .args .format) (s .args .n) (c .before .before .before .before .if1 .taken)) (c .before .before .write-before .ensures)
 
 counted-binary-requires : tie.Need-counted-binary-requires
-counted-binary-requires c κs = let s = c .before .before .before .before in room s (ap (λ (f : ℕ). plain f (s .args .n)) (c .before .if2 .taken))
+counted-binary-requires c κs = let s = c .before .before .before .before in room s (ap (λ (f : ℕ). numeral f (s .args .n)) (c .before .if2 .taken))
 
 same-length-2 : tie.Need-same-length-2
 same-length-2 c = search needs
@@ -58,7 +58,7 @@ returns-2 : tie.Need-returns-2
 returns-2 c = rw (c .before .before .before .before .if2 .taken) (c .before .before .counted-binary .ensures)
 
 counted-octal-requires : tie.Need-counted-octal-requires
-counted-octal-requires c κs = let s = c .before .before .before .before .before in room s (ap (λ (f : ℕ). plain f (s .args .n)) (c .before .if3 .taken))
+counted-octal-requires c κs = let s = c .before .before .before .before .before in room s (ap (λ (f : ℕ). numeral f (s .args .n)) (c .before .if3 .taken))
 
 same-length-3 : tie.Need-same-length-3
 same-length-3 c = search needs
@@ -89,7 +89,7 @@ returns-4 c =
     let s = c .before .before .before .before .before .before .before .before in
     let a = s .args in
     let w = c .before .before .write-hex in
-    (ap (λ (i : ℕ). a .end - i) (s .pre .0), part-ended (plain (a .format) (a .n)) (a .out .now) (w .last .1 .1 .0) (a .end - a .count) (a .end) (w .result) (omega (arith, s .pre .0, s .pre .1)) (s .pre .2) (w .ensures))
+    (ap (λ (i : ℕ). a .end - i) (s .pre .0), part-ended (numeral (a .format) (a .n)) (a .out .now) (w .last .1 .1 .0) (a .end - a .count) (a .end) (w .result) (omega (arith, s .pre .0, s .pre .1)) (s .pre .2) (w .ensures))
 
 pub write-digits-spec : {M : Type 1} → statement M
 write-digits-spec =

@@ -6,7 +6,7 @@ use lib.ListN.{length}
 use Rattle.buffer.specs.AtEnd.{ended}
 use Rattle.digits.proofs.Text.{length-text}
 use Rattle.radix.specs.Radix.{digitByte}
-use Rattle.writing.specs.Text.{plain}
+use Rattle.writing.specs.Text.{numeral}
 use Rattle.writing.proofs.Cases.{lacks-room, has-room}
 use borrow.Author.Needs.{needs}
 use Rattle.framing.proofs.write_hex.Statement.{statement}
@@ -18,7 +18,7 @@ hex-letter-requires c κs = search needs
 count-requires : tie.Need-count-requires
 count-requires c κs = search needs
 
-counted : (c : tie.After-count) → let a = c .before .before .before .args in c .count .result ≡ length (plain (a .format) (a .n))
+counted : (c : tie.After-count) → let a = c .before .before .before .args in c .count .result ≡ length (numeral (a .format) (a .n))
 counted c =
     let h = c .before .hex-letter in
     let n = c .before .before .before .args .n in
@@ -27,7 +27,7 @@ counted c =
 returns : tie.Need-returns
 returns c =
     let a = c .before .before .before .before .args in
-    lacks-room (plain (a .format) (a .n)) (a .out .now) (c .before .count .result) (counted (c .before)) (c .if1 .taken)
+    lacks-room (numeral (a .format) (a .n)) (a .out .now) (c .before .count .result) (counted (c .before)) (c .if1 .taken)
 
 write-requires : tie.Need-write-requires
 write-requires c κs =
@@ -46,7 +46,7 @@ returns-2 c =
     let n = k .count .result in
     let w = c .before .before .write in
     rw (w .ensures .0)
-    (has-room (plain (a .format) (a .n)) (a .out .now) n (counted k) (w .last .1 .1 .1 .0) (e .if1 .left)
+    (has-room (numeral (a .format) (a .n)) (a .out .now) n (counted k) (w .last .1 .1 .1 .0) (e .if1 .left)
     (w .ensures .1 ∙ ap (ended (a .out .now) n) (sym (k .before .hex-letter .ensures .2 (a .n)))))
 
 pub write-hex-spec : {M : Type 1} → statement M

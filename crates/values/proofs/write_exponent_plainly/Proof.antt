@@ -5,7 +5,7 @@ use Rattle.kinds.specs.Kinds.{meaning}
 use Rattle.scaling.specs.Coefficient.{precisionOf}
 use Rattle.scientific.specs.Layout.{expText}
 use Rattle.writing.specs.Text.{letterOf}
-use Rattle.writing.proofs.Cases.{exponent-writes, framed-bare}
+use Rattle.writing.proofs.Cases.{exponent-writes, unframes}
 use borrow.Author.Needs.{needs}
 use Rattle.values.proofs.write_exponent_plainly.Statement.{statement}
 use Rattle.values.proofs.write_exponent_plainly.Tie as tie
@@ -26,7 +26,7 @@ returns c bits o U k =
     let s = c .before .before .before .before .split-pattern in
     let w = c .before .before .write-bare-exponent in
     exponent-writes bits (meaning 64 (a .signed) (a .value)) (a .format) o (length (a .out .now)) (s .result) (s .ensures) k (a .out .now) (w .result) (w .last .1 .1 .1 .1 .0) refl (t .pre)
-    (rw (framed-bare o (s .result .negative) (a .format) (expText (letterOf (a .format)) (precisionOf (o .precision)) (s .result .magnitude)) U, U .precision) (w .ensures))
+    (rw (unframes o (s .result .negative) (a .format) (expText (letterOf (a .format)) (precisionOf (o .precision)) (s .result .magnitude)) U, U .precision) (w .ensures))
 
 pub write-exponent-plainly-spec : {M : Type 1} → statement M
 write-exponent-plainly-spec =

@@ -6,7 +6,7 @@ use Rattle.kinds.specs.Kinds.{meaning}
 use Rattle.scaling.specs.declared.Precision.{Precision}
 use Rattle.writing.specs.declared.Options.{Options}
 use Rattle.writing.specs.Promise.{Unframed, Places}
-use Rattle.writing.specs.Text.{bare, plain, textOf}
+use Rattle.writing.specs.Text.{unframed, numeral, textOf}
 use Rattle.values.proofs.Plain.{bare-places, digit-places}
 use borrow.Author.Needs.{needs}
 use Rattle.values.proofs.write_plainly.Statement.{statement}
@@ -30,7 +30,7 @@ returns c o p U =
 
 -- decimal, and the two others
 plainly : (c : tie.After-shown) {r : ℕ} {l : List ℕ} → let a = c .before .before .args in
-    (o : Options) (p : Precision) → Unframed o p → Places (bare (c .shown .result .negative) (plain (a .format) (c .shown .result .magnitude))) (a .out .now) r l →
+    (o : Options) (p : Precision) → Unframed o p → Places (unframed (c .shown .result .negative) (numeral (a .format) (c .shown .result .magnitude))) (a .out .now) r l →
     Places (textOf (a .bits) (meaning 64 (a .signed) (a .value)) (a .format) o) (a .out .now) r l
 plainly c o p U w = let a = c .before .before .args in bare-places (a .bits) (meaning 64 (a .signed) (a .value)) (a .format) (c .shown .result) (c .shown .ensures .0) o p U w
 

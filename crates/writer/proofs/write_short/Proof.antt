@@ -13,7 +13,7 @@ use Rattle.scientific.specs.Layout.{expText}
 use Rattle.writing.specs.declared.Written.{Written}
 use Rattle.writing.specs.Promise.{house, settled, answer, Writes, Places}
 use Rattle.writing.specs.Text.{letterOf, textOf}
-use Rattle.writing.proofs.Cases.{known-range, options-refused, plain-writes, exponent-writes, exponent-kept, settles, framed-bare, house-unframed, house-known, house-unknown, type-refused, value-refused, judged}
+use Rattle.writing.proofs.Cases.{known-range, options-refused, plain-writes, exponent-writes, exponent-kept, settles, unframes, house-unframed, house-known, house-unknown, type-refused, value-refused, judged}
 use borrow.Author.Needs.{needs}
 use Rattle.writer.proofs.write_short.Statement.{statement}
 use Rattle.writer.proofs.write_short.Tie as tie
@@ -107,7 +107,7 @@ returns-6 c =
     let k = judged-are t in
     judged (a .kind .signed) (a .kind .bits) (a .value) (a .format) house (a .out .now) (k .0) (k .1) _ _
     (exponent-writes (a .kind .bits) (meaning 64 (a .kind .signed) (a .value)) (a .format) house (length (a .out .now)) (s .result) (s .ensures) (house-known (a .format) (f .if5 .left)) (a .out .now) (c .settle3 .result) (w .last .1 .1 .1 .0) refl (f .before .if4 .left)
-    (rw (framed-bare house (s .result .negative) (a .format) (expText (letterOf (a .format)) none (s .result .magnitude)) house-unframed)
+    (rw (unframes house (s .result .negative) (a .format) (expText (letterOf (a .format)) none (s .result .magnitude)) house-unframed)
     (exponent-kept none (s .result .magnitude) _ (a .out .now) _ _ (w .ensures .0) (settles (w .ensures .1) (c .settle3 .ensures)))))
 
 pub write-short-spec : {M : Type 1} → statement M
