@@ -1,7 +1,8 @@
-// Plays lines of input and writes the answer to each: what the programs replay and trials_write share. No part of the archive.
+// Plays lines of input and writes the answer to each: what the programs replay, trials and trials_write share. No part of the archive.
 // A line is one of these, and any other is answered by `?`:
 //
 //     u VALUE, i PATTERN    the plain decimal of a 64-bit number, by the end entries
+//     the same and a room   `LENGTH [PART] [BUFFER]` of the part that is handed back, over a buffer of so many dots, 24 at most
 //     12 numbers            bits signed value format plus alternate zero fill align width given precision: the text by writer::write,
 //                           or `! NUMBER VALUE` of a refusal
 //     13 numbers            the same, with the room at the end: `NUMBER VALUE [BUFFER]`, over a buffer of so many dots
