@@ -13,7 +13,7 @@ same-length : tie.Need-same-length
 same-length c = search needs
 
 returns : tie.Need-returns
-returns c = search needs
+returns c = c .before .before .write-value .ensures
 
 pub write-u16-spec : {M : Type 1} → statement M
 write-u16-spec = tie.close (tie.spec write-value-requires same-length returns)
