@@ -1,5 +1,7 @@
 // Binary and octal of a pattern, eight digits at a time in a word; the last up to 16 by two stores that may overlap.
 // Carries over the binary and the octal of radix_integer! of fmt/num.rs. Each has its own code, so that the compiler has the bits of a digit as a number.
+#![tactic(auto)]
+
 ghost use Rattle.std.specs.Prelude.{◌≡◌, ◌-◌, ◌<◌, ◌≤◌, length};
 ghost use Rattle.buffer.specs.AtEnd.{ended};
 ghost use Rattle.digits.specs.Text.{ascii, text};

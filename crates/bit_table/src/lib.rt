@@ -1,5 +1,7 @@
 // Digits that stand for so many bits each, the shift: their text by a table of them, the plain form of binary, octal and hex, and how many they are before a byte is written.
 // Carries over radix_integer! of fmt/num.rs: one writer over the bits of a digit and the table of digits, right to left, two digits a turn.
+#![tactic(auto)]
+
 ghost use Rattle.std.specs.Prelude.{◌≡◌, ◌+◌, ◌-◌, ◌%◌, ◌^◌, ◌<◌, ◌≤◌, length};
 ghost use Rattle.std.proofs.lemmas.List.Edits.{sets};
 ghost use Rattle.buffer.specs.AtEnd.{ended};

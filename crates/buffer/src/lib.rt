@@ -1,4 +1,6 @@
 // Where a text stands in a lent buffer: definitions and laws, which the writers of every layer share, and the two leaves that write a run.
+#![tactic(auto)]
+
 ghost use Rattle.std.specs.Prelude.{◌≡◌, ◌+◌, ◌≤◌, length, replicate, take, drop};
 ghost use Rattle.buffer.specs.AtEnd.{ended};
 

@@ -1,4 +1,6 @@
 // The writer by type, the value by value: type and value need no check.
+#![tactic(auto)]
+
 ghost use Rattle.std.specs.Prelude.{pos, length};
 ghost use Rattle.writing.specs.Text.{text_of};
 ghost use Rattle.writing.specs.Promise.{answer_of, Writes};

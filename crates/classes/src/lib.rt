@@ -1,6 +1,8 @@
 // The decimal text of a number just before an end, by its size class: within a class no loop, and no branch on how many digits there are.
 // The digits in front are shifted so that they start the text and are stored whole; those behind are stored over what is too much of them.
 // No byte outside the text is touched, so the text's own room is enough.
+#![tactic(auto)]
+
 ghost use Rattle.std.specs.Prelude.{◌≡◌, ◌-◌, ◌<◌, ◌≤◌, length};
 ghost use Rattle.buffer.specs.AtEnd.{ended};
 ghost use Rattle.digits.specs.Text.{decimal};

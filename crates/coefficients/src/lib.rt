@@ -1,4 +1,6 @@
 // The front of an exponent text: a minus or none, the lead digit, the point with the fraction, and the letter.
+#![tactic(auto)]
+
 ghost use Rattle.std.specs.Prelude.{◌≤◌, ◌<◌, length};
 ghost use Rattle.coefficients.specs.Coefficients.{FractionOf, CoefficientOf};
 

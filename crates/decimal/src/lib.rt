@@ -1,4 +1,6 @@
 // Decimal: the fast form by size class, and the end entries. A short buffer takes the plain form, which has the same contract, and so the same bytes.
+#![tactic(auto)]
+
 ghost use Rattle.std.specs.Prelude.{◌≡◌, ◌+◌, ◌-◌, ◌≤◌, leb, length};
 ghost use Rattle.buffer.specs.AtEnd.{ended};
 ghost use Rattle.digits.specs.Text.{decimal, signed};

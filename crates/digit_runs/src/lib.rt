@@ -1,4 +1,6 @@
 // A minus in front and runs of digits in any base to 16, read a byte at a time.
+#![tactic(auto)]
+
 ghost use Rattle.std.specs.Prelude.{◌≡◌, ◌-◌, ◌/◌, ◌^◌, ◌<◌, ◌≤◌, length};
 ghost use Rattle.radix.specs.Radix.{digit_byte};
 ghost use Rattle.digit_runs.specs.Runs.{IsDigit, DigitRun, Scanned, Front};

@@ -1,4 +1,6 @@
 // Eight digits at a time in a word, the first in the lowest byte: whether a word of bytes is one of decimal digits, and the number that eight digits of any base up to 16 stand for.
+#![tactic(auto)]
+
 ghost use Rattle.std.specs.Prelude.{◌≡◌, ◌-◌, ◌^◌, ◌<◌, ◌≤◌, ◌++◌, map, take, drop};
 ghost use Rattle.digits.specs.Digits.{value, Below};
 ghost use Rattle.digits.specs.Text.{ascii};

@@ -1,5 +1,7 @@
 // Digit pairs, powers of ten, the count of decimal digits and the bits a pattern needs.
 // Carries over DECIMAL_PAIRS and checked_ilog10 of fmt/num.rs; checked_pow becomes the table of powers.
+#![tactic(auto)]
+
 ghost use Rattle.std.specs.Prelude.{◌≡◌, ◌^◌, ◌<◌, length};
 ghost use Rattle.digits.specs.Digits.{digits};
 ghost use Rattle.digits.specs.Tables.{pair_table};

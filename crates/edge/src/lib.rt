@@ -1,4 +1,6 @@
 // The numbers of the C edge: an answer as two words, a precision that may be given, and a text read into an answer.
+#![tactic(auto)]
+
 ghost use Rattle.std.specs.Prelude.{◌≡◌};
 ghost use Rattle.edge.specs.Edge.{given_precision, Reads};
 

@@ -1,6 +1,8 @@
 // Four and eight decimal digits at a time, as the bytes of one word, the first digit in the lowest byte: no table and no loop.
 // Each step splits every number in the word at once: a product and a shift give the quotients, a mask keeps them apart.
 // No product leaves its word.
+#![tactic(auto)]
+
 ghost use Rattle.std.specs.Prelude.{◌≡◌, map, ◌+◌, ◌*◌, ◌/◌, ◌%◌, ◌<◌};
 ghost use Rattle.digits.specs.Digits.{last, Below};
 ghost use Rattle.digits.specs.Text.{ascii};

@@ -1,5 +1,7 @@
 // The pieces of the exponent form's text: the coefficient, and the letter with the exponent, each with its length.
 // Carries over of impl_Exp! of fmt/num.rs what encodes the two; `exponent` joins them.
+#![tactic(auto)]
+
 ghost use Rattle.std.specs.Prelude.{◌≡◌, ◌∷◌, ℕ, ◌+◌, ◌<◌, ◌≤◌, length};
 ghost use Rattle.buffer.specs.AtEnd.{ended};
 ghost use Rattle.digits.specs.Text.{decimal};

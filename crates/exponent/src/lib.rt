@@ -1,5 +1,7 @@
 // The exponent form: the text of a coefficient and an exponent, written where it has room, or as three parts.
 // Carries over the end of impl_Exp! of fmt/num.rs; `scaling` has its first half, and `encoding` the pieces of the text.
+#![tactic(auto)]
+
 ghost use Rattle.std.specs.Prelude.{◌≡◌, ℕ, ◌+◌, ◌<◌, ◌≤◌, length};
 ghost use Rattle.buffer.specs.AtEnd.{ended};
 ghost use Rattle.scaling.specs.Coefficient.{precision_of};

@@ -1,4 +1,6 @@
 // Exponent texts: behind the coefficient the exponent, the rules of writing and the magnitude.
+#![tactic(auto)]
+
 ghost use Rattle.std.specs.Prelude.{◌≡◌, ◌+◌, ◌-◌, ◌≤◌, ◌<◌, length};
 ghost use Rattle.exponent_texts.specs.Exponents.{AtMostTwo, Rules, Tells, Product, ExponentOf};
 

@@ -1,5 +1,7 @@
 // Three parts by value behind a sign: their length and their writing.
 // Carries over Formatted of num/imp/fmt.rs.
+#![tactic(auto)]
+
 ghost use Rattle.std.specs.Prelude.{◌≡◌, ◌-◌, ◌^◌, ◌≤◌, ◌<◌, length};
 ghost use Rattle.buffer.specs.AtEnd.{ended};
 ghost use Rattle.part_answers.specs.Answers.{measured, Writes};

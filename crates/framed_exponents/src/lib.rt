@@ -1,5 +1,7 @@
 // The exponent form with what is around it, a minus alone or all that the options ask for, checked for room before the first byte.
 // Carries over pad_formatted_parts of fmt/mod.rs, where the exponent form asks for it.
+#![tactic(auto)]
+
 ghost use Rattle.std.specs.Prelude.{◌≡◌, ◌≤◌, length};
 ghost use Rattle.std.proofs.Math.Option.{none};
 ghost use Rattle.exponent.specs.Coefficient.{Sized, scaled_text};

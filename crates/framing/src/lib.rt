@@ -1,5 +1,7 @@
 // Digits with what the options put around them, laid out and checked for room before the first byte: the layout, and the plain forms.
 // Carries over pad_integral of fmt/mod.rs, where it asks for the digits; `framed_exponents` has the exponent form.
+#![tactic(auto)]
+
 ghost use Rattle.std.specs.Prelude.{◌≡◌, List, ℕ, ◌-◌, ◌<◌, ◌≤◌, length};
 ghost use Rattle.buffer.specs.AtEnd.{ended};
 ghost use Rattle.digits.specs.Text.{text};
@@ -61,11 +63,11 @@ pub fn write_hex(format: u32, n: u64, out: &mut [u8]) -> usize
     ensures { Places (numeral format n) out.old result out.new }
 {
     let letter = hex_letter(format);
-    let len = hex::count(n);
+    let len = hex_digits::count(n);
     if out.len() < len {
         return len;
     }
-    hex::write(letter, n, len, out, len)
+    hex_digits::write(letter, n, len, out, len)
 }
 
 // The digits, so many as were counted, just before end.

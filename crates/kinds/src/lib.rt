@@ -1,5 +1,7 @@
 // The eight types: range test, sign and magnitude, patterns, and the sizes of num_buffer.rs.
 // Carries over BUF_SIZE of fmt/num_buffer.rs and unsigned_abs.
+#![tactic(auto)]
+
 ghost use Rattle.std.specs.Prelude.{true, false, ◌≡◌, ◌≤◌};
 ghost use Rattle.kinds.specs.Kinds.{known, is_in_type, pattern, meaning, split_of, BufSize};
 

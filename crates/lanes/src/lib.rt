@@ -1,4 +1,6 @@
 // Hex, octal and binary digits side by side in a word, one a byte, the first in the lowest: four or eight of them at once, and no loop.
+#![tactic(auto)]
+
 ghost use Rattle.std.specs.Prelude.{map, ◌≡◌, ◌<◌, ◌≤◌};
 ghost use Rattle.digits.specs.Digits.{last, Below};
 ghost use Rattle.digits.specs.Text.{ascii, last_text};

@@ -1,4 +1,6 @@
 // The C edge: what the firmware in C calls, and the Rust oracle. A slice is a pointer and a length; an answer is two words.
+#![tactic(auto)]
+
 ghost use Rattle.std.specs.Prelude.{length};
 ghost use Rattle.digits.specs.Text.{decimal, signed};
 ghost use Rattle.decimal.specs.Ends.{EndPromise};

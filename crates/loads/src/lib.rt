@@ -1,4 +1,6 @@
 // The bytes of a buffer loaded as a word, the lowest first. Eight loads side by side become one load.
+#![tactic(auto)]
+
 ghost use Rattle.std.specs.Prelude.{◌≡◌, ◌+◌, ◌^◌, ◌≤◌, ◌<◌, length, take, drop};
 ghost use Rattle.words.specs.Bytes.{bytes_of};
 

@@ -1,4 +1,6 @@
 // What reading answers, and the answer for a value that was read.
+#![tactic(auto)]
+
 ghost use Rattle.std.specs.Prelude.{◌≡◌, true, ◌≤◌, ◌<◌};
 ghost use Rattle.reading.specs.Formats.{whole};
 ghost use Rattle.outcomes.specs.Outcomes.{number_of, value_of, value_outcome, pattern_outcome};

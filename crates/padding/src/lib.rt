@@ -1,5 +1,7 @@
 // Sign, prefix and padding around digits that another layer writes.
 // Carries over pad_integral and, for the exponent form, pad_formatted_parts of fmt/mod.rs, as one layout.
+#![tactic(auto)]
+
 ghost use Rattle.std.specs.Prelude.{true, [], ◌∷◌, ◌++◌, ◌≡◌, ◌+◌, ◌-◌, ◌≤◌, length, replicate};
 ghost use Rattle.buffer.specs.AtEnd.{ended};
 ghost use Rattle.padding.specs.Padding.{Planned, sign_of, prefix_of};

@@ -1,5 +1,7 @@
 // Decimal by digit pairs, right to left: the plain form, which a short buffer takes.
 // Carries over _fmt_inner and format_into of fmt/num.rs: four digits a turn, then two, then one.
+#![tactic(auto)]
+
 ghost use Rattle.std.specs.Prelude.{◌≡◌, ◌+◌, ◌-◌, ◌<◌, ◌≤◌, length};
 ghost use Rattle.std.proofs.lemmas.List.Edits.{sets};
 ghost use Rattle.buffer.specs.AtEnd.{ended};

@@ -1,4 +1,6 @@
 // The answers to a list of parts, of its length and of its writing: each with document 01's number and what it returns.
+#![tactic(auto)]
+
 ghost use Rattle.std.specs.Prelude.{◌≡◌};
 ghost use Rattle.part_answers.specs.Answers.{measured_number, measured_value, wrote_number, wrote_value};
 

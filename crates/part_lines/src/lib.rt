@@ -5,6 +5,8 @@
 //                           and `NUMBER VALUE [BUFFER]` of Formatted::write
 //     l and 4 to 40 numbers count source sign, kind and two numbers for each of so many parts, 12 at most, room: the same of
 //                           twelve_parts::length and write
+#![tactic(auto)]
+
 use fields::{lines, output};
 
 mod list;

@@ -1,6 +1,8 @@
 // A list of parts of any length, lent as a slice: its text, once the whole list is judged.
 // Carries over write of Formatted of num/imp/fmt.rs, whose parts are such a slice. It holds the list, which the check covers in no function, so its proof is
 // a walk by hand: the length is part_scan's, the judgement part_steps', the writing part_walk's.
+#![tactic(auto)]
+
 ghost use Rattle.part_answers.specs.Answers.{Writes};
 
 use part_answers::Wrote;

@@ -1,4 +1,6 @@
 // The answers to parts, part by part: of the length from the sign on, each from the answer for the parts before it, and of writing from that of the length.
+#![tactic(auto)]
+
 ghost use Rattle.std.specs.Prelude.{◌≡◌, List, [], ◌∷◌, ◌++◌, ℕ, ◌+◌, ◌^◌, ◌<◌, length};
 ghost use Rattle.parts.specs.Parts.{held};
 ghost use Rattle.part_answers.specs.Answers.{measured, wrote};

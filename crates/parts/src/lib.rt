@@ -1,5 +1,7 @@
 // Parts of a text: a sign, then zeros, numbers in decimal and copied runs of one lent source. The length and the writing of each.
 // Carries over Part of num/imp/fmt.rs. A kind is a code and a copied run a start and a length, since no enum holds a reference.
+#![tactic(auto)]
+
 ghost use Rattle.std.specs.Prelude.{◌≡◌, false, ◌-◌, ◌≤◌, length};
 ghost use Rattle.buffer.specs.AtEnd.{ended};
 ghost use Rattle.digits.specs.Text.{decimal};

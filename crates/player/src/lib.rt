@@ -10,6 +10,8 @@
 //     s and 5 numbers       bits signed value format room: the same by write_short
 //     LABEL|LINE            `LABEL: ` and the answer to LINE
 //     # ..                  a heading, which is written as it is
+#![tactic(auto)]
+
 use fields::{lines, output};
 
 mod plain;

@@ -1,6 +1,8 @@
 // Binary, octal, lower and upper hex, and their lengths before a byte is written.
 // Carries over the four formats of radix_integer! of fmt/num.rs. Its one writer is the crate bit_table, for binary and octal of up to four digits;
 // more of them, and hex, have faster ones: the crates bit_eights and hex.
+#![tactic(auto)]
+
 ghost use Rattle.std.specs.Prelude.{◌≡◌, ◌-◌, ◌<◌, ◌≤◌, length};
 ghost use Rattle.buffer.specs.AtEnd.{ended};
 ghost use Rattle.digits.specs.Text.{text};
@@ -11,7 +13,7 @@ fn write_hex(letter: u8, n: u64, buf: &mut [u8], end: usize) -> usize
     requires { (57 < letter) × (letter ≤ 250) × (length (text (digit_byte letter) 16 n) ≤ end) × (end ≤ length buf.old) }
     ensures { (result ≡ end - length (text (digit_byte letter) 16 n)) × (buf.new ≡ ended buf.old end (text (digit_byte letter) 16 n)) }
 {
-    end - hex::write(letter, n, hex::count(n), buf, end)
+    end - hex_digits::write(letter, n, hex_digits::count(n), buf, end)
 }
 
 // Binary and octal of n, whose len digits are counted: a few by the table, more of them in words.

@@ -1,5 +1,7 @@
 // The reader: plain texts back to values, of any type, in any of the seven formats. All new: the Rust's own parsing is not carried over.
 // One pass over the text, in constant memory.
+#![tactic(auto)]
+
 ghost use Rattle.std.specs.Prelude.{true, ◌≡◌, ◌-◌, ◌/◌, ◌^◌, ◌≤◌, ◌<◌, length};
 ghost use Rattle.kinds.specs.Kinds.{known};
 ghost use Rattle.radix.specs.Radix.{digit_byte};

@@ -1,5 +1,7 @@
 // The coefficient and the exponent of a number, rounded to a precision or without its last zeros.
 // Carries over the first half of impl_Exp! of fmt/num.rs. checked_ilog10 becomes the count of digits, checked_pow the table of powers.
+#![tactic(auto)]
+
 ghost use Rattle.std.proofs.Math.Option.{none, some};
 ghost use Rattle.std.specs.Prelude.{◌≡◌, ◌≤◌};
 ghost use Rattle.scientific.specs.Sci.{exponent_of, up, rounded};

@@ -1,5 +1,7 @@
 // Texts of 1 to 16 hex digits, eight bytes at a time: no loop, and no branch on the exact length.
 // Whatever is no such text, or has a zero in front, is not known: a reader byte by byte knows what is wrong with it.
+#![tactic(auto)]
+
 ghost use Rattle.std.specs.Prelude.{true, ◌≡◌, ◌+◌, ◌*◌, ◌-◌, ◌/◌, ◌%◌, ◌^◌, ◌≤◌, ◌<◌, length};
 ghost use Rattle.digits.specs.Text.{text, last_text};
 ghost use Rattle.lanes.specs.Letters.{digit_byte};

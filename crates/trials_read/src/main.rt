@@ -2,6 +2,8 @@
 // A row of standard input is `r BITS SIGNED FORMAT TEXT`, the text up to the line's end, and answered by `NUMBER VALUE` of reader::read:
 // the value as a 64-bit pattern. A row with no text reads the empty one. `LABEL|ROW` has `LABEL: ` in front of the answer, and `# ..` is
 // a heading. The file stdout is written by hand from the document, never from what this program writes.
+#![tactic(auto)]
+
 use fields::field::Field;
 use fields::narrow::word;
 use fields::{field, lines, narrow, output};

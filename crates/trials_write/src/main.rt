@@ -2,6 +2,8 @@
 // stands at the head of crates/player; value and options follow in the order
 // `bits signed value format plus alternate zero fill align width given precision`, with the room behind them where it is a part of the trial.
 // The file stdout is written by hand from the document, the std::fmt guide and fmt/mod.rs, never from what this program writes.
+#![tactic(auto)]
+
 fn main() {
     player::run();
 }

@@ -1,5 +1,7 @@
 // The first so many of twelve parts by value, their length and their writing: for callers, as a program's main, that can hold no list of parts themselves.
 // A count beyond twelve takes them all.
+#![tactic(auto)]
+
 ghost use Rattle.std.specs.Prelude.{◌≡◌, ◌≤◌, take};
 ghost use Rattle.part_answers.specs.Answers.{measured, Writes};
 ghost use Rattle.twelve_parts.specs.Twelve.{first};

@@ -1,5 +1,7 @@
 // Texts of 1 to 20 decimal digits, eight bytes at a time: no loop, and no branch on the exact length.
 // Whatever is no such text, has a zero in front or too large a number, is NONE: a reader byte by byte knows what is wrong with it.
+#![tactic(auto)]
+
 ghost use Rattle.std.specs.Prelude.{◌≡◌, ◌+◌, ◌-◌, ◌<◌, ◌≤◌, [], ◌∷◌, ◌++◌, length, take, ◌≢◌};
 ghost use Rattle.digits.specs.Digits.{value};
 ghost use Rattle.digits.specs.Text.{decimal};

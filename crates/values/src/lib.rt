@@ -1,5 +1,7 @@
 // A value of a type that has been judged, to text: format and options, with every refusal before the first byte.
 // Carries over the impls of Display, Binary, Octal, LowerHex, UpperHex, LowerExp and UpperExp, over the bits of a type.
+#![tactic(auto)]
+
 ghost use Rattle.std.specs.Prelude.{true, false, ◌≡◌, ℕ, ◌<◌, ◌≤◌, length};
 ghost use Rattle.kinds.specs.Kinds.{known, is_in_type, meaning};
 ghost use Rattle.writing.specs.Text.{framed, numeral, text_of};

@@ -1,4 +1,6 @@
 // Texts of digits behind a minus or none: what each is found to be.
+#![tactic(auto)]
+
 ghost use Rattle.std.specs.Prelude.{true, false, ◌≡◌, ◌-◌, ◌/◌, ◌^◌, ◌≤◌, ◌<◌, length};
 ghost use Rattle.radix.specs.Radix.{digit_byte, lower};
 ghost use Rattle.whole_texts.specs.Wholes.{IsNumber, FoundOf};

@@ -1,5 +1,7 @@
 // A word's bytes stored in a buffer, the lowest first, all of them or without the zeros in front.
 // Eight stores side by side of one word's bytes become one store. They are loaded by the crate loads.
+#![tactic(auto)]
+
 ghost use Rattle.std.specs.Prelude.{◌≡◌, ◌+◌, ◌-◌, ◌≤◌, ◌++◌, length, drop};
 ghost use Rattle.std.proofs.lemmas.List.Edits.{sets};
 ghost use Rattle.words.specs.Bytes.{bytes_of, zeros_front};

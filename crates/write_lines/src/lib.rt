@@ -1,5 +1,7 @@
 // The lines of 12 and 13 numbers, a call of writer::write with all its fields, and those behind `s`, the short form. What they are stands
 // at the head of crates/player, which plays them. No part of the archive.
+#![tactic(auto)]
+
 use fields::narrow::{half, word};
 use fields::{field, narrow, output};
 use kinds::Kind;

@@ -1,4 +1,6 @@
 // The public writer: a number to text by type, format and options, as one 64-bit core that judges type and value first, and its short form.
+#![tactic(auto)]
+
 ghost use Rattle.std.specs.Prelude.{length};
 ghost use Rattle.kinds.specs.Kinds.{meaning};
 ghost use Rattle.writing.specs.Text.{text_of};

@@ -1,5 +1,7 @@
 // What a writing call is given and answers: the options, the answer, document 01's numbers, and which options are known.
 // The text of a call and the promise of every writing entry are this crate's specs/.
+#![tactic(auto)]
+
 ghost use Rattle.std.specs.Prelude.{◌≡◌};
 ghost use Rattle.writing.specs.Promise.{house, known_options, settled, number, value};
 

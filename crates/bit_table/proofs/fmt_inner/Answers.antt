@@ -1,0 +1,113 @@
+-- `bit_table::fmt_inner` meets its contract. The invariant: what is left of the text, written so that it ends at the offset, completes the buffer (`Left`).
+-- The measure is the number that is left. Assumes nothing.
+use mathlib.Core.Path.{◌≡◌, refl}
+use mathlib.Core.List.{List, [], ◌∷◌, ◌++◌}
+use Prim.Native.Nat.{ℕ, ◌+◌, ◌-◌, ◌/◌, ◌%◌, ◌^◌}
+use native.Mathlib.Omega.{arith}
+use lib.ListN.{length, length-set}
+use lib.Seq.{length-sets}
+use Rattle.buffer.proofs.Left.{Left, left-start, left-room, left-store, left-last}
+use Rattle.digits.specs.Text.{text, last_text}
+use Rattle.digits.proofs.Text.{length-last_text}
+use Rattle.bit_table.specs.Bits.{table_byte}
+use Rattle.bit_table.proofs.Shift.{pair-more, pair-last, one_last, shifted-less}
+use Rattle.bit_table.proofs.fmt_inner.Goals as goal
+use Rattle.bit_table.proofs.fmt_inner.Goals.{At-loop-remain, Else-remain-shift-ne0, In-loop-remain, Then-remain-shift-ne0}
+
+pub overflow_add-pair : goal.overflow_add-pair
+overflow_add-pair c = omega arith
+
+pub loop-remain-init : goal.loop-remain-init
+loop-remain-init c =
+    let t = text (table_byte c.args.table.now) (2 ^ c.args.shift) c.args.n in
+    left-start c.args.buf.now c.args.end t t refl c.requires.2 c.requires.3
+
+pub overflow_cast-pair : goal.overflow_cast-pair
+overflow_cast-pair c = omega arith
+
+pub overflow_shr-remain : goal.overflow_shr-remain
+overflow_shr-remain c = omega arith
+
+abbrev Digits : At-loop-remain → ℕ → List ℕ
+Digits c n = text (table_byte c.args.table.now) (2 ^ c.args.shift) n
+
+abbrev Pair : At-loop-remain → List ℕ
+Pair c = last_text (table_byte c.args.table.now) (2 ^ c.args.shift) 2 c.loop-remain.remain
+
+abbrev Front : At-loop-remain → List ℕ
+Front c = Digits c (c.loop-remain.remain / 2 ^ (c.args.shift + c.args.shift))
+
+more : (c : In-loop-remain) → Digits c c.loop-remain.remain ≡ Front c ++ Pair c
+more c =
+    pair-more (table_byte c.args.table.now) c.args.shift c.requires.0 c.loop-remain.remain c.loop-remain-test.true
+
+two : (c : Then-remain-shift-ne0) → Digits c c.loop-remain.remain ≡ Pair c
+two c =
+    pair-last (table_byte c.args.table.now) c.args.shift c.requires.0 c.loop-remain.remain c.loop-remain-test.false c.if-remain-shift-ne0.true
+
+one : (c : Else-remain-shift-ne0) → Digits c c.loop-remain.remain ≡ table_byte c.args.table.now (c.loop-remain.remain % 2 ^ c.args.shift) ∷ []
+one c =
+    one_last (table_byte c.args.table.now) c.args.shift c.requires.0 c.loop-remain.remain c.if-remain-shift-ne0.false
+
+length-pair : (c : At-loop-remain) → length (Pair c) ≡ 2
+length-pair c = length-last_text (table_byte c.args.table.now) (2 ^ c.args.shift) 2 c.loop-remain.remain
+
+pub overflow_sub-offset : goal.overflow_sub-offset
+overflow_sub-offset c = omega (arith, left-room c.loop-remain.invariant (Front (goal.at.overflow_sub-offset c).At-loop-remain) (Pair (goal.at.overflow_sub-offset c).At-loop-remain) (more (goal.at.overflow_sub-offset c).In-loop-remain), length-pair (goal.at.overflow_sub-offset c).At-loop-remain)
+
+pub put2-requires : goal.put2-requires
+put2-requires c =
+    let h = overflow_sub-offset (goal.at.put2-requires c).In-loop-remain in
+    (c.requires.1, omega (arith, c.loop-remain.invariant.within))
+
+pub overflow_cast-remain : goal.overflow_cast-remain
+overflow_cast-remain c = omega arith
+
+pub overflow_shr-remain-in-loop-remain : goal.overflow_shr-remain-in-loop-remain
+overflow_shr-remain-in-loop-remain c = omega arith
+
+pub loop-remain-smaller : goal.loop-remain-smaller
+loop-remain-smaller c =
+    shifted-less (c.args.shift + c.args.shift) c.loop-remain.remain (omega (arith, c.requires.0)) c.loop-remain-test.true
+
+pub loop-remain-preserved : goal.loop-remain-preserved
+loop-remain-preserved c =
+    let h = overflow_sub-offset (goal.at.loop-remain-preserved c).In-loop-remain in
+    rw c.put2.ensures
+    (left-store c.loop-remain.invariant (Front (goal.at.loop-remain-preserved c).At-loop-remain) (Pair (goal.at.loop-remain-preserved c).At-loop-remain) (c.loop-remain.offset - 2) (more (goal.at.loop-remain-preserved c).In-loop-remain) (omega (arith, length-pair (goal.at.loop-remain-preserved c).At-loop-remain)))
+
+pub overflow_shr-remain-2 : goal.overflow_shr-remain-2
+overflow_shr-remain-2 c = omega arith
+
+pub overflow_sub-offset-then-remain-shift-ne0 : goal.overflow_sub-offset-then-remain-shift-ne0
+overflow_sub-offset-then-remain-shift-ne0 c = omega (arith, left-room c.loop-remain.invariant [] (Pair (goal.at.overflow_sub-offset-then-remain-shift-ne0 c).At-loop-remain) (two (goal.at.overflow_sub-offset-then-remain-shift-ne0 c).Then-remain-shift-ne0), length-pair (goal.at.overflow_sub-offset-then-remain-shift-ne0 c).At-loop-remain)
+
+pub put2-requires-then-remain-shift-ne0 : goal.put2-requires-then-remain-shift-ne0
+put2-requires-then-remain-shift-ne0 c =
+    let h = overflow_sub-offset-then-remain-shift-ne0 (goal.at.put2-requires-then-remain-shift-ne0 c).Then-remain-shift-ne0 in
+    (c.requires.1, omega (arith, c.loop-remain.invariant.within))
+
+pub shape_of-buf-then-remain-shift-ne0 : goal.shape_of-buf-then-remain-shift-ne0
+shape_of-buf-then-remain-shift-ne0 c = rw (c.put2-then-remain-shift-ne0.ensures, length-sets) c.loop-remain.invariant.same
+
+pub returns-then-remain-shift-ne0 : goal.returns-then-remain-shift-ne0
+returns-then-remain-shift-ne0 c =
+    let h = overflow_sub-offset-then-remain-shift-ne0 (goal.at.returns-then-remain-shift-ne0 c).Then-remain-shift-ne0 in
+    rw c.put2-then-remain-shift-ne0.ensures (left-last c.loop-remain.invariant _ (c.loop-remain.offset - 2) (two (goal.at.returns-then-remain-shift-ne0 c).Then-remain-shift-ne0) (omega (arith, length-pair (goal.at.returns-then-remain-shift-ne0 c).At-loop-remain)))
+
+pub overflow_sub-offset-2 : goal.overflow_sub-offset-2
+overflow_sub-offset-2 c = left-room c.loop-remain.invariant [] _ (one (goal.at.overflow_sub-offset-2 c).Else-remain-shift-ne0)
+
+pub last_byte-requires : goal.last_byte-requires
+last_byte-requires c = c.requires.1
+
+pub bounds-buf-offset : goal.bounds-buf-offset
+bounds-buf-offset c = omega (arith, overflow_sub-offset-2 (goal.at.bounds-buf-offset c).Else-remain-shift-ne0, c.loop-remain.invariant.within)
+
+pub shape_of-buf : goal.shape_of-buf
+shape_of-buf c = simp length-set c.loop-remain.invariant.same
+
+pub returns : goal.returns
+returns c =
+    let h = overflow_sub-offset-2 (goal.at.returns c).Else-remain-shift-ne0 in
+    rw c.last_byte.ensures (left-last c.loop-remain.invariant _ (c.loop-remain.offset - 1) (one (goal.at.returns c).Else-remain-shift-ne0) (omega arith))

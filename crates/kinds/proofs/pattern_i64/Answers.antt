@@ -1,0 +1,30 @@
+-- `kinds::pattern_i64` meets its contract. Assumes nothing.
+use mathlib.Core.Path.{sym, ap}
+use native.Mathlib.Omega.{arith}
+use mir.Syntax.{w64}
+use Rattle.kinds.specs.Kinds.{pattern}
+use Rattle.kinds.proofs.Signs.{flipped, mag-fits, again, plain, is_negative, not_negative}
+use Rattle.kinds.proofs.pattern_i64.Goals as goal
+
+pub overflow_sub-result : goal.overflow_sub-result
+overflow_sub-result c = rw (flipped w64 c.args.x c.ranges.x c.if-x-lt0.true) (mag-fits w64 c.args.x c.ranges.x)
+
+pub overflow_cast-result : goal.overflow_cast-result
+overflow_cast-result c =
+    rw (flipped w64 c.args.x c.ranges.x c.if-x-lt0.true, again w64 c.args.x c.ranges.x) (tt, record { fits = omega (arith, c.ranges.x.sfits) })
+
+pub overflow_sub-result-then-x-lt0 : goal.overflow_sub-result-then-x-lt0
+overflow_sub-result-then-x-lt0 c =
+    rw (flipped w64 c.args.x c.ranges.x c.if-x-lt0.true, again w64 c.args.x c.ranges.x) (omega (arith, c.ranges.x.sfits))
+
+pub returns-then-x-lt0 : goal.returns-then-x-lt0
+returns-then-x-lt0 c =
+    rw (flipped w64 c.args.x c.ranges.x c.if-x-lt0.true, again w64 c.args.x c.ranges.x) (omega (arith, c.ranges.x.sfits, ap (pattern 64) (is_negative w64 c.args.x c.ranges.x c.if-x-lt0.true)))
+
+pub overflow_cast-result-2 : goal.overflow_cast-result-2
+overflow_cast-result-2 c =
+    rw (plain w64 c.args.x c.ranges.x c.if-x-lt0.false) (tt, record { fits = omega (arith, c.ranges.x.sfits) })
+
+pub returns : goal.returns
+returns c =
+    rw (plain w64 c.args.x c.ranges.x c.if-x-lt0.false) (sym (ap (pattern 64) (not_negative w64 c.args.x c.ranges.x c.if-x-lt0.false)))

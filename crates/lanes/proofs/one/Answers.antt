@@ -1,0 +1,10 @@
+-- `lanes::one` meets its contract: a digit, or a letter. Assumes nothing.
+use borrow.Author.Tests.{lt-ltb, le-ltb}
+use borrow.Author.Rules.{rules}
+use Rattle.lanes.proofs.one.Goals as goal
+
+pub returns-then-n-lt10 : goal.returns-then-n-lt10
+returns-then-n-lt10 c = rw (lt-ltb c.args.n 10 c.if-n-lt10.true)
+
+pub returns : goal.returns
+returns c = rw (le-ltb c.args.n 10 c.if-n-lt10.false)
