@@ -24,7 +24,7 @@ fn fraction(text: &[u8], at: usize, lead: u64) -> Run
 }
 
 // The front of an exponent text, up to its letter, which stands at end. The size is that of the point and the fraction; the value that of all digits.
-#[derive(Drop)]
+#[derive(Clone, Copy)]
 pub enum Coefficient {
     Wrong(usize),
     Number {

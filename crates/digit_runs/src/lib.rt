@@ -9,7 +9,7 @@ ghost use Rattle.digit_runs.specs.Runs.{IsDigit, DigitRun, Scanned, Front};
 pub const TENTH: u64 = 0x1999_9999_9999_9999;
 
 // A run of digits: where it ends, and the number that they stand for, unless it is over 64 bits.
-#[derive(Drop)]
+#[derive(Clone, Copy)]
 pub struct Run {
     pub end: usize,
     pub value: u64,

@@ -9,7 +9,7 @@ use scaling::Precision;
 
 // Document 01's number of the answer, and what it returns.
 #[repr(C)]
-#[derive(Drop)]
+#[derive(Clone, Copy)]
 pub struct Answer {
     pub number: u64,
     pub value: u64,

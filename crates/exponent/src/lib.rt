@@ -13,7 +13,7 @@ use parts::Part;
 use scaling::{Precision, Scaled};
 
 // The text as parts of the scratch bytes, or that its exponent has more than two digits, which no 64-bit number's has.
-#[derive(Drop)]
+#[derive(Clone, Copy)]
 pub enum Shown {
     Parts(Formatted),
     ExponentRefused,

@@ -9,7 +9,7 @@ use digit_runs::digit;
 use whole_texts::Found;
 
 // At most two digits: where they end, and the number that they stand for.
-#[derive(Drop)]
+#[derive(Clone, Copy)]
 pub struct Short {
     pub end: usize,
     pub value: u64,
@@ -91,7 +91,7 @@ fn zeros(k: u64, size: usize) -> u64
 }
 
 // A number, unless it is over 64 bits.
-#[derive(Drop)]
+#[derive(Clone, Copy)]
 pub struct Held {
     pub value: u64,
     pub over: bool,

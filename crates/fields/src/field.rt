@@ -2,13 +2,13 @@
 ghost use Rattle.fields.specs.Fields.{Within};
 
 // A number with the place where its field ends; or no number, or one of more than 64 bits.
-#[derive(Drop)]
+#[derive(Clone, Copy)]
 pub enum Field {
     Number(u64, usize),
     Bad,
 }
 
-#[derive(Drop)]
+#[derive(Clone, Copy)]
 enum Value {
     Is(u64),
     Bad,

@@ -12,7 +12,7 @@ use part_answers::{Measured, Wrote};
 use parts::Part;
 
 // A sign code (0 none, 1 minus, 2 plus) and three parts behind it.
-#[derive(Drop)]
+#[derive(Clone, Copy)]
 pub struct Formatted {
     pub sign: u32,
     pub first: Part,

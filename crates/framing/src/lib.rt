@@ -14,7 +14,7 @@ use padding::Pad;
 use writing::Options;
 
 // How a text is laid out: its padding and its whole length.
-#[derive(Drop)]
+#[derive(Clone, Copy)]
 pub struct Layout {
     pub pad: Pad,
     pub need: usize,

@@ -6,14 +6,14 @@ ghost use Rattle.std.specs.Prelude.{true, false, ◌≡◌, ◌≤◌};
 ghost use Rattle.kinds.specs.Kinds.{known, is_in_type, pattern, meaning, split_of, BufSize};
 
 // A type: its bits (8, 16, 32, 64), and whether it is signed.
-#[derive(Drop)]
+#[derive(Clone, Copy)]
 pub struct Kind {
     pub bits: u32,
     pub signed: bool,
 }
 
 // A number by its sign and its unsigned magnitude.
-#[derive(Drop)]
+#[derive(Clone, Copy)]
 pub struct Split {
     pub negative: bool,
     pub magnitude: u64,
@@ -121,28 +121,28 @@ pub fn own_pattern(signed: bool, bits: u32, p: u64) -> u64
     (p << spare) >> spare
 }
 
-#[derive(Drop)]
+#[derive(Clone, Copy)]
 pub struct U8;
 
-#[derive(Drop)]
+#[derive(Clone, Copy)]
 pub struct I8;
 
-#[derive(Drop)]
+#[derive(Clone, Copy)]
 pub struct U16;
 
-#[derive(Drop)]
+#[derive(Clone, Copy)]
 pub struct I16;
 
-#[derive(Drop)]
+#[derive(Clone, Copy)]
 pub struct U32;
 
-#[derive(Drop)]
+#[derive(Clone, Copy)]
 pub struct I32;
 
-#[derive(Drop)]
+#[derive(Clone, Copy)]
 pub struct U64;
 
-#[derive(Drop)]
+#[derive(Clone, Copy)]
 pub struct I64;
 
 impl U8 {

@@ -6,7 +6,7 @@ ghost use Rattle.reading.specs.Formats.{whole};
 ghost use Rattle.outcomes.specs.Outcomes.{number_of, value_of, value_outcome, pattern_outcome};
 
 // What became of reading: the value as a 64-bit pattern, or why there is none. SHAPE has its place.
-#[derive(Drop)]
+#[derive(Clone, Copy)]
 pub enum Outcome {
     Done(u64),
     TypeRefused,

@@ -7,7 +7,7 @@ ghost use Rattle.buffer.specs.AtEnd.{ended};
 ghost use Rattle.padding.specs.Padding.{Planned, sign_of, prefix_of};
 
 // How many bytes of padding stand in front of the sign, between prefix and digits, and behind the digits.
-#[derive(Drop)]
+#[derive(Clone, Copy)]
 pub struct Pad {
     pub before: usize,
     pub zeros: usize,

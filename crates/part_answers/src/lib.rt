@@ -5,7 +5,7 @@ ghost use Rattle.std.specs.Prelude.{◌≡◌};
 ghost use Rattle.part_answers.specs.Answers.{measured_number, measured_value, wrote_number, wrote_value};
 
 // What the length is, or why there is none.
-#[derive(Drop)]
+#[derive(Clone, Copy)]
 pub enum Measured {
     Done(u64),
     OptionsRefused,
@@ -13,7 +13,7 @@ pub enum Measured {
 }
 
 // What became of writing.
-#[derive(Drop)]
+#[derive(Clone, Copy)]
 pub enum Wrote {
     Done(u64),
     OptionsRefused,

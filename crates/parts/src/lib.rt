@@ -8,7 +8,7 @@ ghost use Rattle.digits.specs.Text.{decimal};
 ghost use Rattle.parts.specs.Parts.{sign_text, part_text, leaves_source, part_length, zero_part, num_part, copy_part};
 
 // A part by its kind code: 0, so many zeros; 1, a number; 2, the run of len bytes of the source from start on.
-#[derive(Drop)]
+#[derive(Clone, Copy)]
 pub struct Part {
     pub kind: u32,
     pub number: u16,

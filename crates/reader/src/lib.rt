@@ -106,7 +106,7 @@ pub fn read(kind: Kind, format: u32, text: &[u8]) -> Outcome
 }
 
 // The value that a text stands for, where it was found at once.
-#[derive(Drop)]
+#[derive(Clone, Copy)]
 pub struct Quick {
     pub done: bool,
     pub value: u64,

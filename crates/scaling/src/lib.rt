@@ -8,14 +8,14 @@ ghost use Rattle.scientific.specs.Sci.{exponent_of, up, rounded};
 ghost use Rattle.scaling.specs.Coefficient.{precision_of, Scales};
 
 // How many digits stand behind the point: as many as are needed, or so many.
-#[derive(Drop)]
+#[derive(Clone, Copy)]
 pub enum Precision {
     None,
     Digits(u16),
 }
 
 // The digits of coef, coef_prec of them behind the point, and more_prec zeros behind those; the exponent.
-#[derive(Drop)]
+#[derive(Clone, Copy)]
 pub struct Scaled {
     pub coef: u64,
     pub coef_prec: usize,

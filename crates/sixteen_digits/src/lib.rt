@@ -13,7 +13,7 @@ use lanes::spelled;
 use loads::{load4, load8};
 
 // The number that a text stands for, where it is known.
-#[derive(Drop)]
+#[derive(Clone, Copy)]
 pub struct Number {
     pub known: bool,
     pub value: u64,

@@ -10,7 +10,7 @@ use sixteen_digits::Number;
 use twenty_digits::number_of;
 
 // What a text of digits is found to be: of another shape from a place on, not canonical, or a number behind a minus or none.
-#[derive(Drop)]
+#[derive(Clone, Copy)]
 pub enum Found {
     Wrong(usize),
     Broken,
@@ -43,7 +43,7 @@ pub fn find_whole(text: &[u8], may: bool, base: u64, top: u64, letter: u8) -> Fo
 }
 
 // A minus or none and the number behind it; NONE where it is not known.
-#[derive(Drop)]
+#[derive(Clone, Copy)]
 pub struct Magnitude {
     pub minus: bool,
     pub value: u64,

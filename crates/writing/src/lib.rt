@@ -8,7 +8,7 @@ ghost use Rattle.writing.specs.Promise.{house, known_options, settled, number, v
 use scaling::Precision;
 
 // The options of a call.
-#[derive(Drop)]
+#[derive(Clone, Copy)]
 pub struct Options {
     pub plus: bool,
     pub alternate: bool,
@@ -20,7 +20,7 @@ pub struct Options {
 }
 
 // The answer: a length, or why there is no text.
-#[derive(Drop)]
+#[derive(Clone, Copy)]
 pub enum Written {
     Done(usize),
     TypeRefused,
