@@ -41,15 +41,18 @@ loop-remain-init c =
 enough : (c : At-loop-remain) → 8 < length (text ascii 2 c.loop-remain.remain)
 enough c = omega (arith, c.loop-remain.invariant.1, c.loop-remain.invariant.2)
 
+room : (c : At-loop-remain) → 8 ≤ c.loop-remain.offset
+room c = omega (arith, c.loop-remain.invariant.0.room, enough c)
+
 pub overflow_sub-offset : goal.overflow_sub-offset
-overflow_sub-offset c = omega (arith, c.loop-remain.invariant.0.room, enough (goal.at.overflow_sub-offset c).At-loop-remain)
+overflow_sub-offset c = room (goal.at.overflow_sub-offset c).At-loop-remain
 
 pub put8-requires : goal.put8-requires
-put8-requires c = omega (arith, overflow_sub-offset (goal.at.put8-requires c).In-loop-remain, c.loop-remain.invariant.0.within)
+put8-requires c = omega (arith, room (goal.at.put8-requires c).At-loop-remain, c.loop-remain.invariant.0.within)
 
 pub loop-remain-preserved : goal.loop-remain-preserved
 loop-remain-preserved c =
-    let h = overflow_sub-offset (goal.at.loop-remain-preserved c).In-loop-remain in (
+    let h = room (goal.at.loop-remain-preserved c).At-loop-remain in (
       rw (c.put8.ensures, c.eight_bits-in-loop-remain.ensures, last-eight c.loop-remain.remain)
           (eight-store ascii 1 (lit< tt) c.loop-remain.remain (c.loop-remain.offset - 8) c.loop-remain.invariant.0 (enough (goal.at.loop-remain-preserved c).At-loop-remain) (omega arith)),
       omega (arith, c.loop-remain.invariant.1, eight-less ascii 1 (lit< tt) c.loop-remain.remain (enough (goal.at.loop-remain-preserved c).At-loop-remain)),

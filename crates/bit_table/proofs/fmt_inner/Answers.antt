@@ -12,7 +12,7 @@ use Rattle.digits.proofs.Text.{length-last_text}
 use Rattle.bit_table.specs.Bits.{table_byte}
 use Rattle.bit_table.proofs.Shift.{pair-more, pair-last, one_last, shifted-less}
 use Rattle.bit_table.proofs.fmt_inner.Goals as goal
-use Rattle.bit_table.proofs.fmt_inner.Goals.{At-loop-remain, Else-remain-shift-ne0, In-loop-remain, Then-remain-shift-ne0}
+use Rattle.bit_table.proofs.fmt_inner.Goals.{Else-remain-shift-ne0, In-loop-remain, Then-remain-shift-ne0}
 
 pub overflow_add-pair : goal.overflow_add-pair
 overflow_add-pair c = omega arith
@@ -28,32 +28,34 @@ overflow_cast-pair c = omega arith
 pub overflow_shr-remain : goal.overflow_shr-remain
 overflow_shr-remain c = omega arith
 
-abbrev Digits : At-loop-remain → ℕ → List ℕ
-Digits c n = text (table_byte c.args.table.now) (2 ^ c.args.shift) n
+abbrev Digits : List ℕ → ℕ → ℕ → List ℕ
+Digits table shift n = text (table_byte table) (2 ^ shift) n
 
-abbrev Pair : At-loop-remain → List ℕ
-Pair c = last_text (table_byte c.args.table.now) (2 ^ c.args.shift) 2 c.loop-remain.remain
+abbrev Pair : List ℕ → ℕ → ℕ → List ℕ
+Pair table shift n = last_text (table_byte table) (2 ^ shift) 2 n
 
-abbrev Front : At-loop-remain → List ℕ
-Front c = Digits c (c.loop-remain.remain / 2 ^ (c.args.shift + c.args.shift))
+abbrev Front : List ℕ → ℕ → ℕ → List ℕ
+Front table shift n = Digits table shift (n / 2 ^ (shift + shift))
 
-more : (c : In-loop-remain) → Digits c c.loop-remain.remain ≡ Front c ++ Pair c
+more : (c : In-loop-remain) →
+    let t = c.args.table.now in let s = c.args.shift in let n = c.loop-remain.remain in Digits t s n ≡ Front t s n ++ Pair t s n
 more c =
     pair-more (table_byte c.args.table.now) c.args.shift c.requires.0 c.loop-remain.remain c.loop-remain-test.true
 
-two : (c : Then-remain-shift-ne0) → Digits c c.loop-remain.remain ≡ Pair c
+two : (c : Then-remain-shift-ne0) → let t = c.args.table.now in let s = c.args.shift in let n = c.loop-remain.remain in Digits t s n ≡ Pair t s n
 two c =
     pair-last (table_byte c.args.table.now) c.args.shift c.requires.0 c.loop-remain.remain c.loop-remain-test.false c.if-remain-shift-ne0.true
 
-one : (c : Else-remain-shift-ne0) → Digits c c.loop-remain.remain ≡ table_byte c.args.table.now (c.loop-remain.remain % 2 ^ c.args.shift) ∷ []
+one : (c : Else-remain-shift-ne0) →
+    let t = c.args.table.now in let s = c.args.shift in let n = c.loop-remain.remain in Digits t s n ≡ table_byte t (n % 2 ^ s) ∷ []
 one c =
     one_last (table_byte c.args.table.now) c.args.shift c.requires.0 c.loop-remain.remain c.if-remain-shift-ne0.false
 
-length-pair : (c : At-loop-remain) → length (Pair c) ≡ 2
-length-pair c = length-last_text (table_byte c.args.table.now) (2 ^ c.args.shift) 2 c.loop-remain.remain
+length-pair : (table : List ℕ) (shift n : ℕ) → length (Pair table shift n) ≡ 2
+length-pair table shift n = length-last_text (table_byte table) (2 ^ shift) 2 n
 
 pub overflow_sub-offset : goal.overflow_sub-offset
-overflow_sub-offset c = omega (arith, left-room c.loop-remain.invariant (Front (goal.at.overflow_sub-offset c).At-loop-remain) (Pair (goal.at.overflow_sub-offset c).At-loop-remain) (more (goal.at.overflow_sub-offset c).In-loop-remain), length-pair (goal.at.overflow_sub-offset c).At-loop-remain)
+overflow_sub-offset c = omega (arith, left-room c.loop-remain.invariant (Front c.args.table.now c.args.shift c.loop-remain.remain) (Pair c.args.table.now c.args.shift c.loop-remain.remain) (more (goal.at.overflow_sub-offset c).In-loop-remain), length-pair c.args.table.now c.args.shift c.loop-remain.remain)
 
 pub put2-requires : goal.put2-requires
 put2-requires c =
@@ -74,13 +76,13 @@ pub loop-remain-preserved : goal.loop-remain-preserved
 loop-remain-preserved c =
     let h = overflow_sub-offset (goal.at.loop-remain-preserved c).In-loop-remain in
     rw c.put2.ensures
-    (left-store c.loop-remain.invariant (Front (goal.at.loop-remain-preserved c).At-loop-remain) (Pair (goal.at.loop-remain-preserved c).At-loop-remain) (c.loop-remain.offset - 2) (more (goal.at.loop-remain-preserved c).In-loop-remain) (omega (arith, length-pair (goal.at.loop-remain-preserved c).At-loop-remain)))
+    (left-store c.loop-remain.invariant (Front c.args.table.now c.args.shift c.loop-remain.remain) (Pair c.args.table.now c.args.shift c.loop-remain.remain) (c.loop-remain.offset - 2) (more (goal.at.loop-remain-preserved c).In-loop-remain) (omega (arith, length-pair c.args.table.now c.args.shift c.loop-remain.remain)))
 
 pub overflow_shr-remain-2 : goal.overflow_shr-remain-2
 overflow_shr-remain-2 c = omega arith
 
 pub overflow_sub-offset-then-remain-shift-ne0 : goal.overflow_sub-offset-then-remain-shift-ne0
-overflow_sub-offset-then-remain-shift-ne0 c = omega (arith, left-room c.loop-remain.invariant [] (Pair (goal.at.overflow_sub-offset-then-remain-shift-ne0 c).At-loop-remain) (two (goal.at.overflow_sub-offset-then-remain-shift-ne0 c).Then-remain-shift-ne0), length-pair (goal.at.overflow_sub-offset-then-remain-shift-ne0 c).At-loop-remain)
+overflow_sub-offset-then-remain-shift-ne0 c = omega (arith, left-room c.loop-remain.invariant [] (Pair c.args.table.now c.args.shift c.loop-remain.remain) (two (goal.at.overflow_sub-offset-then-remain-shift-ne0 c).Then-remain-shift-ne0), length-pair c.args.table.now c.args.shift c.loop-remain.remain)
 
 pub put2-requires-then-remain-shift-ne0 : goal.put2-requires-then-remain-shift-ne0
 put2-requires-then-remain-shift-ne0 c =
@@ -93,7 +95,7 @@ shape_of-buf-then-remain-shift-ne0 c = rw (c.put2-then-remain-shift-ne0.ensures,
 pub returns-then-remain-shift-ne0 : goal.returns-then-remain-shift-ne0
 returns-then-remain-shift-ne0 c =
     let h = overflow_sub-offset-then-remain-shift-ne0 (goal.at.returns-then-remain-shift-ne0 c).Then-remain-shift-ne0 in
-    rw c.put2-then-remain-shift-ne0.ensures (left-last c.loop-remain.invariant _ (c.loop-remain.offset - 2) (two (goal.at.returns-then-remain-shift-ne0 c).Then-remain-shift-ne0) (omega (arith, length-pair (goal.at.returns-then-remain-shift-ne0 c).At-loop-remain)))
+    rw c.put2-then-remain-shift-ne0.ensures (left-last c.loop-remain.invariant _ (c.loop-remain.offset - 2) (two (goal.at.returns-then-remain-shift-ne0 c).Then-remain-shift-ne0) (omega (arith, length-pair c.args.table.now c.args.shift c.loop-remain.remain)))
 
 pub overflow_sub-offset-2 : goal.overflow_sub-offset-2
 overflow_sub-offset-2 c = left-room c.loop-remain.invariant [] _ (one (goal.at.overflow_sub-offset-2 c).Else-remain-shift-ne0)

@@ -4,7 +4,7 @@ use mathlib.Core.List.{List, [], ◌∷◌}
 use Prim.Native.Nat.{ℕ, ◌+◌, ◌-◌, ◌^◌, ◌≤◌, ◌<◌}
 use native.Mathlib.Omega.{arith}
 use lib.Dec.{lit<}
-use lib.ListN.{drop}
+use lib.ListN.{length, drop}
 use lib.Seq.{sets}
 use Rattle.buffer.specs.AtEnd.{ended}
 use Rattle.buffer.proofs.AtEnd.{ended-sets}
@@ -20,10 +20,10 @@ hex : 1 < 16
 hex = lit< tt
 
 -- between j and k digits
-within : (s : Start) (j k : ℕ) → 0 < k → s.args.n < 16 ^ k → 16 ^ j ≤ s.args.n → (s.args.len ≤ k) × (j < s.args.len)
-within s j k some h i =
-    let α = digit_byte s.args.letter in
-    (omega (arith, s.requires.2, text-most α 16 hex k s.args.n some h), omega (arith, s.requires.2, text-more α 16 hex j s.args.n i))
+within : (letter n len j k : ℕ) → len ≡ length (text (digit_byte letter) 16 n) → 0 < k → n < 16 ^ k → 16 ^ j ≤ n → (len ≤ k) × (j < len)
+within letter n len j k l some h i =
+    let α = digit_byte letter in
+    (omega (arith, l, text-most α 16 hex k n some h), omega (arith, l, text-more α 16 hex j n i))
 
 -- the last k digits without the zeros in front, where they stand
 stands : (s : Start) (k : ℕ) {m : List ℕ} {r : ℕ} → s.args.len ≤ k → r ≡ s.args.end + (k - s.args.len) - k →
@@ -48,7 +48,7 @@ returns-then-n-lt16 c =
     (refl, ended-sets c.args.buf.now (c.args.end - 1) c.args.end (digit_byte c.args.letter c.args.n ∷ []) (omega arith) c.requires.4)
 
 in_four : (c : Then-n-lt65536) → (c.args.len ≤ 4) × (1 < c.args.len)
-in_four c = within c 1 4 (lit< tt) c.if-n-lt65536.true c.if-n-lt16.false
+in_four c = within c.args.letter c.args.n c.args.len 1 4 c.requires.2 (lit< tt) c.if-n-lt65536.true c.if-n-lt16.false
 
 pub overflow_sub-len : goal.overflow_sub-len
 overflow_sub-len c = (in_four (goal.at.overflow_sub-len c).Then-n-lt65536).0
@@ -66,7 +66,7 @@ returns-then-n-lt65536 c =
     (refl, stands (goal.at.returns-then-n-lt65536 c).Start 4 (in_four (goal.at.returns-then-n-lt65536 c).Then-n-lt65536).0 c.tail4.ensures.0 (rw c.four-word.ensures at c.tail4.ensures.1))
 
 in-eight : (c : Then-n-lt4294967296) → (c.args.len ≤ 8) × (4 < c.args.len)
-in-eight c = within c 4 8 (lit< tt) c.if-n-lt4294967296.true c.if-n-lt65536.false
+in-eight c = within c.args.letter c.args.n c.args.len 4 8 c.requires.2 (lit< tt) c.if-n-lt4294967296.true c.if-n-lt65536.false
 
 pub overflow_sub-len-then-n-lt4294967296 : goal.overflow_sub-len-then-n-lt4294967296
 overflow_sub-len-then-n-lt4294967296 c = (in-eight (goal.at.overflow_sub-len-then-n-lt4294967296 c).Then-n-lt4294967296).0
@@ -84,7 +84,7 @@ returns-then-n-lt4294967296 c =
     (refl, stands (goal.at.returns-then-n-lt4294967296 c).Start 8 (in-eight (goal.at.returns-then-n-lt4294967296 c).Then-n-lt4294967296).0 c.tail8.ensures.0 (rw c.eight.ensures at c.tail8.ensures.1))
 
 in-sixteen : (c : Else-n-lt4294967296) → (c.args.len ≤ 16) × (8 < c.args.len)
-in-sixteen c = within c 8 16 (lit< tt) c.ranges.n.fits c.if-n-lt4294967296.false
+in-sixteen c = within c.args.letter c.args.n c.args.len 8 16 c.requires.2 (lit< tt) c.ranges.n.fits c.if-n-lt4294967296.false
 
 pub overflow_sub-len-2 : goal.overflow_sub-len-2
 overflow_sub-len-2 c = (in-sixteen (goal.at.overflow_sub-len-2 c).Else-n-lt4294967296).0

@@ -13,7 +13,7 @@ use Rattle.digits.specs.Text.{decimal}
 use Rattle.digits.proofs.Tables.{table-units}
 use Rattle.pairs.proofs.Pending.{Rest, rest-room, rest-store, pending, pending-all, pending-one, pending-none}
 use Rattle.pairs.proofs.fmt_inner.Goals as goal
-use Rattle.pairs.proofs.fmt_inner.Goals.{Joined-remain-gt9, Joined-then-remain-ne0}
+use Rattle.pairs.proofs.fmt_inner.Goals.{Joined-remain-gt9, Joined-then-remain-ne0, then-remain-gt9, else-remain-gt9}
 
 pub loop-remain-init : goal.loop-remain-init
 loop-remain-init c =
@@ -55,20 +55,31 @@ record Joined (n end : ℕ) (buf₀ : List ℕ) (remain offset : ℕ) (buf : Lis
 joined : (c : Joined-remain-gt9) →
     Joined c.args.n c.args.end c.args.buf.now
     c.if-remain-gt9.remain c.if-remain-gt9.offset c.if-remain-gt9.buf
-joined c = ?
+joined c =
+    elim c.if-remain-gt9.branch [
+      then-remain-gt9 w ↦
+        let h = rest-room c.loop-remain.invariant 1 w.if-remain-gt9.true in
+        rw (w.buf-is, w.offset-is, w.remain-is, w.put2.ensures) (record {
+          rest = rest-store c.loop-remain.invariant 1 w.if-remain-gt9.true (c.loop-remain.offset - 2) (omega arith);
+          small = omega (arith, c.loop-remain-test.false);
+        })
+    | else-remain-gt9 w ↦ rw (w.buf-is, w.offset-is, w.remain-is) (record { rest = c.loop-remain.invariant; small = omega (arith, w.if-remain-gt9.false) })
+    ]
 
 -- where a last digit is written it is all that is left
-one_left : (c : Joined-then-remain-ne0) → pending c.args.n c.if-remain-gt9.remain ≡ (48 + c.if-remain-gt9.remain) ∷ []
-one_left c =
-    let J = joined c in
-    pending-one c.args.n c.if-remain-gt9.remain J.rest.less J.small
-    (⊎_elim (λ w z. absurd (w.taken z)) (λ w z. eqb-true c.args.n 0 w.1.taken) c.then-remain-ne0.branch)
+one_left : (c : Joined-then-remain-ne0) →
+    Joined c.args.n c.args.end c.args.buf.now c.if-remain-gt9.remain c.if-remain-gt9.offset c.if-remain-gt9.buf →
+    pending c.args.n c.if-remain-gt9.remain ≡ (48 + c.if-remain-gt9.remain) ∷ []
+one_left c J =
+    pending-one c.args.n c.if-remain-gt9.remain J.rest.less J.small (⊎_elim (λ w z. absurd (w z)) (λ w z. w.1) c.then-remain-ne0.either)
 
-room-left : (c : Joined-then-remain-ne0) → 1 ≤ c.if-remain-gt9.offset
-room-left c = left-room (joined c).rest.left [] ((48 + c.if-remain-gt9.remain) ∷ []) (one_left c)
+room-left : (c : Joined-then-remain-ne0) →
+    Joined c.args.n c.args.end c.args.buf.now c.if-remain-gt9.remain c.if-remain-gt9.offset c.if-remain-gt9.buf →
+    1 ≤ c.if-remain-gt9.offset
+room-left c J = left-room J.rest.left [] ((48 + c.if-remain-gt9.remain) ∷ []) (one_left c J)
 
 pub overflow_sub-offset-then-remain-ne0 : goal.overflow_sub-offset-then-remain-ne0
-overflow_sub-offset-then-remain-ne0 c = room-left (goal.at.overflow_sub-offset-then-remain-ne0 c).Joined-then-remain-ne0
+overflow_sub-offset-then-remain-ne0 c = room-left (goal.at.overflow_sub-offset-then-remain-ne0 c).Joined-then-remain-ne0 (joined (goal.at.overflow_sub-offset-then-remain-ne0 c).Joined-remain-gt9)
 
 pub overflow_mul-buf : goal.overflow_mul-buf
 overflow_mul-buf c = omega arith
@@ -81,7 +92,7 @@ bounds-pairs-remain c = omega arith
 
 pub bounds-buf-offset : goal.bounds-buf-offset
 bounds-buf-offset c =
-    omega (arith, room-left (goal.at.bounds-buf-offset c).Joined-then-remain-ne0, (joined (goal.at.bounds-buf-offset c).Joined-remain-gt9).rest.left.within)
+    omega (arith, room-left (goal.at.bounds-buf-offset c).Joined-then-remain-ne0 (joined (goal.at.bounds-buf-offset c).Joined-remain-gt9), (joined (goal.at.bounds-buf-offset c).Joined-remain-gt9).rest.left.within)
 
 pub shape_of-buf-then-remain-ne0 : goal.shape_of-buf-then-remain-ne0
 shape_of-buf-then-remain-ne0 c =
@@ -92,12 +103,12 @@ returns-then-remain-ne0 c =
     let J = joined (goal.at.returns-then-remain-ne0 c).Joined-remain-gt9 in
     let d : 48 + c.if-remain-gt9.remain % 16 % 10 ≡ 48 + c.if-remain-gt9.remain = omega (arith, J.small) in
     let e : get_or c.args.pairs.now (c.if-remain-gt9.remain % 16 * 2 + 1) 0 ≡ 48 + c.if-remain-gt9.remain = rw (c.requires.0, table-units (c.if-remain-gt9.remain % 16) (omega arith)) d in
-    rw e (left-last J.rest.left ((48 + c.if-remain-gt9.remain) ∷ []) (c.if-remain-gt9.offset - 1) (one_left (goal.at.returns-then-remain-ne0 c).Joined-then-remain-ne0) (omega (arith, room-left (goal.at.returns-then-remain-ne0 c).Joined-then-remain-ne0)))
+    rw e (left-last J.rest.left ((48 + c.if-remain-gt9.remain) ∷ []) (c.if-remain-gt9.offset - 1) (one_left (goal.at.returns-then-remain-ne0 c).Joined-then-remain-ne0 (joined (goal.at.returns-then-remain-ne0 c).Joined-remain-gt9)) (omega (arith, room-left (goal.at.returns-then-remain-ne0 c).Joined-then-remain-ne0 (joined (goal.at.returns-then-remain-ne0 c).Joined-remain-gt9))))
 
 pub shape_of-buf-else-n-eq0 : goal.shape_of-buf-else-n-eq0
 shape_of-buf-else-n-eq0 c = (joined (goal.at.shape_of-buf-else-n-eq0 c).Joined-remain-gt9).rest.left.same
 
 pub returns-else-n-eq0 : goal.returns-else-n-eq0
 returns-else-n-eq0 c =
-    let e : pending c.args.n c.if-remain-gt9.remain ≡ [] = rw c.if-remain-ne0.false (pending-none c.args.n (eqb-false c.args.n 0 c.if-n-eq0.false)) in
+    let e : pending c.args.n c.if-remain-gt9.remain ≡ [] = rw c.if-remain-ne0.false (pending-none c.args.n c.if-n-eq0.false) in
     left-last (joined (goal.at.returns-else-n-eq0 c).Joined-remain-gt9).rest.left [] c.if-remain-gt9.offset e (omega arith)

@@ -6,7 +6,7 @@ use Prim.Native.Nat.{ℕ, ◌%◌}
 use native.Mathlib.Omega.{arith}
 use Rattle.scaling.proofs.Scaling.{scales-one, Drops, drops-none, drops-more, drops-done}
 use Rattle.scaling.proofs.short.Goals as goal
-use Rattle.scaling.proofs.short.Goals.{Joined-coef-eq0}
+use Rattle.scaling.proofs.short.Goals.{Joined-coef-eq0, then-coef-eq0, else-coef-eq0}
 
 pub returns-then-n-lt10 : goal.returns-then-n-lt10
 returns-then-n-lt10 c = scales-one _ _ c.requires (omega (arith, c.ranges.n.fits)) c.if-n-lt10.true
@@ -33,13 +33,13 @@ record Joined (n e m f : ℕ) : Type 0 where
 
 joined : (c : Joined-coef-eq0) → Joined c.args.n c.args.exp c.if-coef-eq0.coef c.if-coef-eq0.coef_prec
 joined c =
-    ⊎_elim
-    (λ w. rw (w.1, w.2) (record {
-      drops = (drops-more c.loop-coef.invariant c.requires 2 w.0.taken).1;
-      one = λ z. omega (arith, w.0.taken, c.loop-coef-test.false);
-    }))
-    (λ w. rw (w.1, w.2) (record { drops = c.loop-coef.invariant; one = w.0.left }))
-    c.if-coef-eq0.branch
+    elim c.if-coef-eq0.branch [
+      then-coef-eq0 w ↦ rw (w.coef-is, w.coef_prec-is) (record {
+        drops = (drops-more c.loop-coef.invariant c.requires 2 w.if-coef-eq0.true).1;
+        one = λ z. omega (arith, w.if-coef-eq0.true, c.loop-coef-test.false);
+      })
+    | else-coef-eq0 w ↦ rw (w.coef-is, w.coef_prec-is) (record { drops = c.loop-coef.invariant; one = w.if-coef-eq0.false })
+    ]
 
 pub overflow_sub-coef_prec-then-coef-eq0-2 : goal.overflow_sub-coef_prec-then-coef-eq0-2
 overflow_sub-coef_prec-then-coef-eq0-2 c = (drops-more (joined (goal.at.overflow_sub-coef_prec-then-coef-eq0-2 c).Joined-coef-eq0).drops c.requires 1 c.if-coef-eq0-2.true).0

@@ -1,0 +1,13 @@
+-- `radix::counted_binary` meets its contract: of binary digits none is a letter. Assumes nothing.
+use native.Mathlib.Omega.{arith}
+use lib.Dec.{lit<, lit≤}
+use Rattle.bit_table.proofs.Table.{plain-text}
+use borrow.Author.Rules.{rules}
+use Rattle.radix.proofs.counted_binary.Goals as goal
+
+pub binary-requires : goal.binary-requires
+binary-requires c =
+    rw (plain-text 2 c.args.n (lit< tt) (lit≤ tt)) (c.requires.0, omega (arith, c.if-len-le4.false), c.requires.1, c.requires.2)
+
+pub returns : goal.returns
+returns c = rw (plain-text 2 c.args.n (lit< tt) (lit≤ tt)) at c.binary.ensures

@@ -1,0 +1,15 @@
+-- `radix::write_octal` meets its contract: its digits are counted. Assumes nothing.
+use mathlib.Core.Path.{◌≡◌, sym, ◌∙◌}
+use native.Mathlib.Omega.{arith}
+use lib.Dec.{lit<}
+use lib.ListN.{length}
+use Rattle.digits.specs.Text.{text}
+use Rattle.digits.proofs.Text.{length-text}
+use Rattle.radix.specs.Radix.{lower}
+use borrow.Author.Rules.{rules}
+use Rattle.radix.proofs.write_octal.Goals as goal
+
+pub counted_octal-requires : goal.counted_octal-requires
+counted_octal-requires c =
+    let e : c.digit_count.result ≡ length (text lower 8 c.args.n) = c.digit_count.ensures ∙ sym (length-text lower 8 (lit< tt) c.args.n) in
+    (e, omega (arith, c.requires.0), c.requires.1)
