@@ -4,10 +4,11 @@ use mathlib.Core.Logic.{⊎_elim}
 use Rattle.sixteen_digits.proofs.Splices.{whole}
 use borrow.Author.Rules.{rules}
 use Rattle.sixteen_digits.proofs.number_of.Goals as goal
+use Rattle.sixteen_digits.proofs.number_of.Goals.{then-s-eq48+else-s-gt1, else-s-eq48}
 
 pub returns-then-s-gt1 : goal.returns-then-s-gt1
 returns-then-s-gt1 c = λ e. absurd (false≢true e)
 
 pub returns : goal.returns
 returns c = λ e.
-    whole c.args.letter c.args.s.now c.number_in.result.value c.requires.0 (⊎_elim (λ w z. w.1.left) (λ w z. absurd (w.left z)) c.if-s-eq48.branch) (c.number_in.ensures e)
+    whole c.args.letter c.args.s.now c.number_in.result.value c.requires.0 (elim c.if-s-eq48.branch [ then-s-eq48+else-s-gt1 w ↦ λ z. w.if-s-gt1.false | else-s-eq48 w ↦ λ z. absurd (w.if-s-eq48.false z) ]) (c.number_in.ensures e)
