@@ -21,5 +21,5 @@ returns c =
     (
       take_all (length c.end_at_i64-at.new.out - c.end_at_i64-at.result) (drop c.end_at_i64-at.result c.end_at_i64-at.new.out) (omega (arith, length-drop c.end_at_i64-at.result c.end_at_i64-at.new.out)) ∙ from_start p,
       refl,
-      ap (λ (k : ℕ). k + c.args.out.ptr.1) p.answers,
+      ap (λ (k : ℕ). k + c.args.out.ref_ptr.1) p.answers,
     )

@@ -19,5 +19,5 @@ returns c =
     (
       take_all (length c.end_at_u64-at.new.out - c.end_at_u64-at.result) (drop c.end_at_u64-at.result c.end_at_u64-at.new.out) (omega (arith, length-drop c.end_at_u64-at.result c.end_at_u64-at.new.out)) ∙ from_start c.end_at_u64-at.ensures,
       refl,
-      ap (λ (k : ℕ). k + c.args.out.ptr.1) c.end_at_u64-at.ensures.answers,
+      ap (λ (k : ℕ). k + c.args.out.ref_ptr.1) c.end_at_u64-at.ensures.answers,
     )

@@ -4,27 +4,20 @@ use mathlib.Core.Path.{◌≡◌, refl, sym, subst, ◌∙◌}
 use mathlib.Core.List.{[], ◌∷◌}
 use native.Mathlib.Omega.{arith}
 use borrow.Author.Rules.{rules}
-use denote.Enum.Declared.{tag_of}
-use types.Run.{OneOf, miss}
 use lib.ListN.{length}
 use Rattle.part_answers.specs.Answers.{wrote, wrote_number}
 use Rattle.part_answers.specs.declared.Wrote.{Wrote}
 use Rattle.part_answers.proofs.Answers.{wrote-done, is-done, left_alone, writes-done}
-use Rattle.part_answers.specs.contracts.Wrote as W
 use Rattle.formatted.specs.Three.{parts_of}
 use Rattle.formatted.proofs.Formatted.write.Goals as goal
 use Rattle.formatted.proofs.Formatted.write.Goals.{After-judge-answer}
-
--- an answer that is not the first is not DONE
-refused : (r : Wrote) → OneOf (1 ∷ 2 ∷ 3 ∷ []) (tag_of W.the_type r) → wrote_number r ≡ 0 → ⊥
-refused r h z = miss (1 ∷ 2 ∷ 3 ∷ []) 0 tt (subst (λ (w : Wrote). OneOf (1 ∷ 2 ∷ 3 ∷ []) (tag_of W.the_type w)) (is-done r z) h)
 
 -- the answer of `judge` is that of writing
 answer : (c : After-judge-answer) → c.judge-answer.result ≡ wrote (length c.args.src.now) (length c.args.out.now) c.args.self.sign (parts_of c.args.self)
 answer c = c.judge-answer.ensures _ _ _ c.length.ensures
 
 pub returns-in_default : goal.returns-in_default
-returns-in_default c = left_alone _ _ _ _ (answer (goal.at.returns-in_default c).After-judge-answer) (refused c.judge-answer.result c.in-Done.in-Done-own.keys2)
+returns-in_default c = left_alone _ _ _ _ (answer (goal.at.returns-in_default c).After-judge-answer) (λ z. c.in_default.not-Done _ (is-done c.judge-answer.result z))
 
 pub write_before-requires : goal.write_before-requires
 write_before-requires c =
