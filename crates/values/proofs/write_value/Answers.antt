@@ -12,7 +12,7 @@ use Rattle.values.proofs.write_value.Goals.{Else-not-options_known, Then-not-opt
 
 -- past the first test the options are known
 options-are : (e : Else-not-options_known) → known_options e.args.format e.args.options ≡ true
-options-are e = sym e.options_known.ensures ∙ not-false _ e.if-not-options_known.false
+options-are e = sym e.options_known.ensures ∙ e.if-not-options_known.false
 
 -- past three more they put nothing around the digits
 nothing : (t : Then-not-options-2) → Unframed t.args.options t.args.options.precision
@@ -20,7 +20,7 @@ nothing t = record { width = t.if-options-eq0.true; plus = not-true _ t.if-not-o
 
 pub returns-then-not-options_known : goal.returns-then-not-options_known
 returns-then-not-options_known c =
-    rw (options-refused c.args.bits (meaning 64 c.args.signed c.args.value) c.args.format c.args.options (length c.args.out.now) (sym c.options_known.ensures ∙ not-true _ c.if-not-options_known.true)) (record { answers = refl; leaves = refl })
+    rw (options-refused c.args.bits (meaning 64 c.args.signed c.args.value) c.args.format c.args.options (length c.args.out.now) (sym c.options_known.ensures ∙ c.if-not-options_known.true)) (record { answers = refl; leaves = refl })
 
 pub write_plainly-requires : goal.write_plainly-requires
 write_plainly-requires c = (c.requires.0, c.requires.1, c.if-format-le4.true)
