@@ -24,13 +24,13 @@ returns-then-bits-eq64 c = λ e.
 
 pub of_short-requires-then-is_known : goal.of_short-requires-then-is_known
 of_short-requires-then-is_known c =
-    let k = known-range _ (sym c.is_Known.ensures ∙ c.if-is_known.true) in
+    let k = known-range _ (sym c.is_known.ensures ∙ c.if-is_known.true) in
     (k.0, k.1, c.find_short-found.ensures.0)
 
 pub returns-then-is_known : goal.returns-then-is_known
 returns-then-is_known c = λ e.
     let o = c.of_short-then-is_known.ensures e in
-    short-answer c.args.kind.signed c.args.kind.bits c.args.text.now (sym c.is_Known.ensures ∙ c.if-is_known.true) (omega (arith, c.if-text-eq0.false)) (c.find_short-found.ensures.1 c.if-value.false o.0) o.1
+    short-answer c.args.kind.signed c.args.kind.bits c.args.text.now (sym c.is_known.ensures ∙ c.if-is_known.true) (omega (arith, c.if-text-eq0.false)) (c.find_short-found.ensures.1 c.if-value.false o.0) o.1
 
 pub returns : goal.returns
 returns c = λ e. absurd (false≢true e)

@@ -23,11 +23,11 @@ returns-then-bits-eq64 c = λ e.
     subst (λ (b : ℕ). (known b ≡ true) × (0 < length c.args.text.now) × Judges (radix_form (digit_byte c.args.letter) 16 b) c.args.kind.signed b c.args.text.now (Done c.value_only.result.value)) (sym c.if-bits-eq64.true) S
 
 pub of_pattern-requires-then-is_known : goal.of_pattern-requires-then-is_known
-of_pattern-requires-then-is_known c = known-range _ (sym c.is_Known.ensures ∙ c.if-is_known.true)
+of_pattern-requires-then-is_known c = known-range _ (sym c.is_known.ensures ∙ c.if-is_known.true)
 
 pub returns-then-is_known : goal.returns-then-is_known
 returns-then-is_known c = λ e.
-    hex-held c.args.kind.signed c.args.kind.bits c.args.text.now c.args.letter (sym c.is_Known.ensures ∙ c.if-is_known.true) (omega (arith, c.if-text-eq0.false)) (c.find_hex-found.ensures c.if-found.true) (sym (c.value_only-then-is_known.ensures e) ∙ c.of_pattern-then-is_known.ensures)
+    hex-held c.args.kind.signed c.args.kind.bits c.args.text.now c.args.letter (sym c.is_known.ensures ∙ c.if-is_known.true) (omega (arith, c.if-text-eq0.false)) (c.find_hex-found.ensures c.if-found.true) (sym (c.value_only-then-is_known.ensures e) ∙ c.of_pattern-then-is_known.ensures)
 
 pub returns-else-is_known : goal.returns-else-is_known
 returns-else-is_known c = λ e. absurd (false≢true e)

@@ -10,22 +10,22 @@ is-known-requires : tie.Need-is-known-requires
 is-known-requires c κs = search rules
 
 returns : tie.Need-returns
-returns c = let a = c.before.before.before.args in type-refused a.kind.signed a.kind.bits a.value a.format a.options a.out.now (sym c.before.is_Known.ensures ∙ not-true _ c.if1.true)
+returns c = let a = c.before.before.before.args in type-refused a.kind.signed a.kind.bits a.value a.format a.options a.out.now (sym c.before.is_known.ensures ∙ not-true _ c.if1.true)
 
 in-type-requires : tie.Need-in-type-requires
-in-type-requires c κs = known-range _ (sym c.before.is_Known.ensures ∙ not-false _ c.if1.false)
+in-type-requires c κs = known-range _ (sym c.before.is_known.ensures ∙ not-false _ c.if1.false)
 
 returns-2 : tie.Need-returns-2
 returns-2 c =
     let e = c.before.before in
     let a = e.before.before.before.args in
-    value-refused a.kind.signed a.kind.bits a.value a.format a.options a.out.now (sym e.before.is_Known.ensures ∙ not-false _ e.if1.false) (sym c.before.in-type.ensures ∙ not-true _ c.if2.true)
+    value-refused a.kind.signed a.kind.bits a.value a.format a.options a.out.now (sym e.before.is_known.ensures ∙ not-false _ e.if1.false) (sym c.before.in-type.ensures ∙ not-true _ c.if2.true)
 
 write-value-requires : tie.Need-write-value-requires
 write-value-requires c κs =
     let t = c.before in
     let e = t.before.before in
-    (sym e.before.is_Known.ensures ∙ not-false _ e.if1.false, sym t.before.in-type.ensures ∙ not-false _ t.if2.false)
+    (sym e.before.is_known.ensures ∙ not-false _ e.if1.false, sym t.before.in-type.ensures ∙ not-false _ t.if2.false)
 
 same_length : tie.Need-same-length
 same_length c = search rules
@@ -36,7 +36,7 @@ returns-3 c =
     let e = t.before.before in
     let a = e.before.before.before.args in
     let w = c.before.before.write-value in
-    judged a.kind.signed a.kind.bits a.value a.format a.options a.out.now (sym e.before.is_Known.ensures ∙ not-false _ e.if1.false) (sym t.before.in-type.ensures ∙ not-false _ t.if2.false) w.result w.new.1.1.1.1.1.0 w.ensures
+    judged a.kind.signed a.kind.bits a.value a.format a.options a.out.now (sym e.before.is_known.ensures ∙ not-false _ e.if1.false) (sym t.before.in-type.ensures ∙ not-false _ t.if2.false) w.result w.new.1.1.1.1.1.0 w.ensures
 
 pub write_spec : {M : Type 1} → statement M
 write_spec =

@@ -22,22 +22,22 @@ is-known-requires : tie.Need-is-known-requires
 is-known-requires c κs = search rules
 
 returns : tie.Need-returns
-returns c = let a = c.before.before.before.args in type-refused a.kind.signed a.kind.bits a.value a.format house a.out.now (sym c.before.is_Known.ensures ∙ not-true _ c.if1.true)
+returns c = let a = c.before.before.before.args in type-refused a.kind.signed a.kind.bits a.value a.format house a.out.now (sym c.before.is_known.ensures ∙ not-true _ c.if1.true)
 
 in-type-requires : tie.Need-in-type-requires
-in-type-requires c κs = known-range _ (sym c.before.is_Known.ensures ∙ not-false _ c.if1.false)
+in-type-requires c κs = known-range _ (sym c.before.is_known.ensures ∙ not-false _ c.if1.false)
 
 returns-2 : tie.Need-returns-2
 returns-2 c =
     let e = c.before.before in
     let a = e.before.before.before.args in
-    value-refused a.kind.signed a.kind.bits a.value a.format house a.out.now (sym e.before.is_Known.ensures ∙ not-false _ e.if1.false) (sym c.before.in-type.ensures ∙ not-true _ c.if2.true)
+    value-refused a.kind.signed a.kind.bits a.value a.format house a.out.now (sym e.before.is_known.ensures ∙ not-false _ e.if1.false) (sym c.before.in-type.ensures ∙ not-true _ c.if2.true)
 
 -- past the two tests the type is known and has the value
 judged-are : (t : tie.Else2) → let a = t.before.before.before.before.before.args in (known a.kind.bits ≡ true) × (is_in_type a.kind.signed a.kind.bits (meaning 64 a.kind.signed a.value) ≡ true)
 judged-are t =
     let e = t.before.before in
-    (sym e.before.is_Known.ensures ∙ not-false _ e.if1.false, sym t.before.in-type.ensures ∙ not-false _ t.if2.false)
+    (sym e.before.is_known.ensures ∙ not-false _ e.if1.false, sym t.before.in-type.ensures ∙ not-false _ t.if2.false)
 
 -- a form that needs no more than a number, whoever writes it
 plainly : (t : tie.Else2) {n : ℕ} {r : Written} {l : List ℕ} → let a = t.before.before.before.before.before.args in
