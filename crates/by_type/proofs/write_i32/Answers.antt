@@ -1,0 +1,26 @@
+-- `by_type::write_i32` meets its contract. Assumes nothing.
+use mathlib.Core.Path.{◌≡◌, refl, ap, ◌∙◌}
+use native.Mathlib.Omega.{arith}
+use mir.Facts.{to_z-of_z, sfits_widen}
+use mir.Syntax.{w32, w64}
+use Rattle.kinds.specs.Kinds.{pattern, meaning}
+use Rattle.kinds.proofs.Patterns.{signed-own, signed-meaning}
+use Rattle.kinds.proofs.Signs.{widened}
+use mathlib.Core.Bool.{true}
+use borrow.Author.Rules.{rules}
+use Rattle.by_type.proofs.write_i32.Goals as goal
+use Rattle.by_type.proofs.write_i32.Goals.{After-pattern_i64}
+
+pub overflow_cast-value : goal.overflow_cast-value
+overflow_cast-value c = simp (to_z-of_z c.ranges.value) (sfits_widen tt c.ranges.value)
+
+-- the pattern stands for the value
+stands : (c : After-pattern_i64) → meaning 64 true c.pattern_i64.result ≡ c.args.value
+stands c =
+    signed-meaning 64 32 c.args.value c.pattern_i64.result (omega arith) (omega arith) c.ranges.value.sfits (c.pattern_i64.ensures ∙ ap (pattern 64) (widened w32 w64 c.args.value c.ranges.value (sfits_widen tt c.ranges.value)))
+
+pub write_value-requires : goal.write_value-requires
+write_value-requires c = (refl, rw (stands (goal.at.write_value-requires c).After-pattern_i64) (signed-own 32 c.args.value c.ranges.value.sfits))
+
+pub returns : goal.returns
+returns c = rw (stands (goal.at.returns c).After-pattern_i64) at c.write_value.ensures

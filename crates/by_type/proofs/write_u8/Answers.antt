@@ -1,0 +1,12 @@
+-- `by_type::write_u8` meets its contract. Assumes nothing.
+use mathlib.Core.Path.{refl}
+use Prim.Native.Nat.{◌^◌}
+use borrow.Author.Tests.{lt-ltb}
+use borrow.Author.Rules.{rules}
+use Rattle.by_type.proofs.write_u8.Goals as goal
+
+pub write_value-requires : goal.write_value-requires
+write_value-requires c = (refl, lt-ltb c.args.value (2 ^ 8) c.ranges.value.fits)
+
+pub returns : goal.returns
+returns c = c.write_value.ensures
