@@ -12,11 +12,10 @@ use Rattle.part_answers.proofs.Answers.{wrote-done, is-done, writes-done}
 use Rattle.parts.specs.Parts.{text_of, Inside, true_length}
 use Rattle.parts.specs.declared.Part.{Part}
 
-module _ (sign : ℕ) (ps : List Part) (src out : List ℕ) {w : Wrote} (a : w ≡ wrote (length src) (length out) sign ps) where
-  module _ (z : wrote_number w ≡ 0) {end : ℕ} (v : end ≡ wrote_value w) where
-    -- what the writer of the text asks
-    pub has_room : Inside (length src) ps × (true_length sign ps ≤ end) × (end ≤ length out)
-    has_room = let d = wrote-done (length src) (length out) sign ps (wrote_value w) (sym a ∙ is-done w z) in (d.0, omega (arith, d.1), omega (arith, d.2))
+module _ (sign : ℕ) (ps : List Part) (src out : List ℕ) {w : Wrote} (a : w ≡ wrote (length src) (length out) sign ps) (z : wrote_number w ≡ 0) where
+  -- what the writer of the text asks
+  pub has_room : {end : ℕ} → end ≡ wrote_value w → Inside (length src) ps × (true_length sign ps ≤ end) × (end ≤ length out)
+  has_room v = let d = wrote-done (length src) (length out) sign ps (wrote_value w) (sym a ∙ is-done w z) in (d.0, omega (arith, d.1), omega (arith, d.2))
 
-    pub is-written : {out' : List ℕ} → out' ≡ ended out end (text_of sign src ps) → Writes sign ps src out w out'
-    is-written e = writes-done sign (wrote_value w) ps src out a (is-done w z) (e ∙ rw v)
+  pub is_written : {out' : List ℕ} → out' ≡ ended out (wrote_value w) (text_of sign src ps) → Writes sign ps src out w out'
+  is_written e = writes-done sign (wrote_value w) ps src out a (is-done w z) e

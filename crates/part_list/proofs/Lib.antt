@@ -1,2 +1,2 @@
--- What the walk of write cites of an answer.
+-- What write cites of an answer.
 mod Judged

@@ -1,6 +1,6 @@
 // A list of parts of any length, lent as a slice: its text, once the whole list is judged.
-// Carries over write of Formatted of num/imp/fmt.rs, whose parts are such a slice. It holds the list, which the check covers in no function, so its proof is
-// a walk by hand: the length is part_scan's, the judgement part_steps', the writing part_walk's.
+// Carries over write of Formatted of num/imp/fmt.rs, whose parts are such a slice: the length is part_scan's, the judgement part_steps',
+// the writing part_walk's.
 #![tactic(auto)]
 
 ghost use Rattle.part_answers.specs.Answers.{Writes};
@@ -9,6 +9,7 @@ use part_answers::Wrote;
 use parts::Part;
 
 // The text at the start of out. The whole list is checked before the first byte is written.
+#[tactic(auto, using(crate::proofs::Judged::is_written))]
 pub fn write(sign: u32, list: &[Part], src: &[u8], out: &mut [u8]) -> Wrote
     ensures { Writes sign list.now src.now out.old result out.new }
 {

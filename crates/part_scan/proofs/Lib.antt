@@ -1,3 +1,2 @@
--- What the walks over a list of parts share.
+-- A law of a part's place.
 pub mod Rows
-pub mod Spelled

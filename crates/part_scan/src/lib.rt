@@ -1,6 +1,6 @@
 // The length of a list of parts, lent as a slice of any length.
-// Carries over len of Formatted of num/imp/fmt.rs, whose parts are such a slice. No function that holds the list is covered, so it is
-// loads, calls, the index and the test, and its proof is a walk by hand; all else is a step of part_steps.
+// Carries over len of Formatted of num/imp/fmt.rs, whose parts are such a slice. It is loads, calls, the index and the test;
+// all else is a step of part_steps.
 #![tactic(auto)]
 
 ghost use Rattle.std.specs.Prelude.{◌≡◌};

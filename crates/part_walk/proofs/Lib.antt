@@ -1,3 +1,3 @@
--- What the walks that write over a list of parts share.
+-- The laws of a turn of the loop, and of a buffer that is lent on.
 pub mod Lent
 mod Back

@@ -1,6 +1,6 @@
 // The text of a list of parts, lent as a slice of any length, written from its last part to its first, with no check.
-// Carries over the loop of write of Formatted of num/imp/fmt.rs. No function that holds the list is covered, so it is
-// loads, calls, the index and the test, and its proof is a walk by hand; all else is a step of parts.
+// Carries over the loop of write of Formatted of num/imp/fmt.rs. It is loads, calls, the index and the test;
+// all else is a step of parts.
 #![tactic(auto)]
 
 ghost use Rattle.std.specs.Prelude.{◌≡◌, ◌-◌, ◌≤◌, length};

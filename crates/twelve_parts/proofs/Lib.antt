@@ -1,2 +1,2 @@
--- What the walks over twelve parts share.
+-- A law of the parts that are lent.
 mod Twelve

@@ -1,4 +1,4 @@
-// The first so many of twelve parts by value, their length and their writing: for callers, as a program's main, that can hold no list of parts themselves.
+// The first so many of twelve parts by value, their length and their writing: for callers, as part_lines, that have an array of parts.
 // A count beyond twelve takes them all.
 #![tactic(auto)]
 
@@ -9,7 +9,7 @@ ghost use Rattle.twelve_parts.specs.Twelve.{first};
 use part_answers::{Measured, Wrote};
 use parts::Part;
 
-// The two bridges: the first count parts, lent as a list. Each lends a list, so its proof is a walk by hand; its own signature holds none, so covered code calls it.
+// The two bridges: the first count parts, lent as a list.
 fn length12(sign: u32, list: [Part; 12], count: usize, source: usize) -> Measured
     requires { count ≤ 12 }
     ensures { result ≡ measured source sign (take count list) }
