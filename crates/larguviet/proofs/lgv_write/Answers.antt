@@ -1,0 +1,7 @@
+-- `larguviet::lgv_write` meets its contract. It is the promise of what it calls. Assumes nothing.
+use Rattle.edge.proofs.Edge.{edged}
+use borrow.Author.Rules.{rules}
+use Rattle.larguviet.proofs.lgv_write.Goals as goal
+
+pub returns : goal.returns
+returns c = edged (rw c.precision_from-digits.ensures at c.write-written.ensures) c.number.ensures c.value.ensures
