@@ -47,9 +47,11 @@ check archive:
 else
 lib := target/staticlib
 check:
-	rt check
+	rt all check
 archive:
-	rt staticlib larguviet
+	cd crates/larguviet && rt lib
+	@mkdir -p $(lib)
+	cp crates/larguviet/out/liblarguviet.a $(lib)/liblarguviet.a
 endif
 
 all: check example

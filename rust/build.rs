@@ -1,4 +1,4 @@
-//! Finds liblarguviet.a and links it: in the folder that LARGUVIET_LIB names, else where `rt staticlib` writes it.
+//! Finds liblarguviet.a and links it: in the folder that LARGUVIET_LIB names, else where `make archive` puts it.
 
 use std::{env, path::PathBuf, process::exit};
 

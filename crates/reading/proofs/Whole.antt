@@ -3,11 +3,10 @@
 use mathlib.Core.Bool.{Bool, true, false}
 use mathlib.Core.List.{List, [], ◌∷◌, ◌++◌, map, append_assoc, append-nil, map-append}
 use mathlib.Core.Path.{◌≡◌, refl, sym, ap, ◌∙◌, subst}
-use Prim.Native.Nat.{ℕ, zero, suc, ◌+◌, ◌<◌}
+use Prim.Native.Nat.{ℕ, zero, suc, ◌<◌}
 use native.Mathlib.Omega.{arith}
 use lib.ListN.{length, get_or, length-append}
 use Rattle.digits.specs.Digits.{digits, value, Below, Canonical}
-use Rattle.digits.specs.Text.{text}
 use Rattle.digits.proofs.Digits.{unique, canonical, digits_value, Below-snoc}
 use Rattle.scientific.specs.Shape.{sign}
 use Rattle.reading.specs.Form.{Begins, Place}

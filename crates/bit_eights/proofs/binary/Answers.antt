@@ -6,12 +6,11 @@ use native.Mathlib.Omega.{arith}
 use lib.Dec.{lit<}
 use lib.ListN.{length}
 use lib.Seq.{length-sets}
-use Rattle.buffer.proofs.Left.{Left, left-start}
+use Rattle.buffer.proofs.Left.{left-start}
 use Rattle.digits.specs.Text.{ascii, text, last_text}
 use Rattle.digits.proofs.Text.{last_text-mod, text-most}
 use Rattle.lanes.proofs.Tails.{text-more, tail-ended}
 use Rattle.bit_eights.proofs.Eights.{eight-less, eight-store, last-sixteen}
-use borrow.Author.Rules.{rules}
 use Rattle.bit_eights.proofs.binary.Goals as goal
 use Rattle.bit_eights.proofs.binary.Goals.{After-loop-remain, At-loop-remain}
 

@@ -1,17 +1,10 @@
 -- `bit_eights::binary` meets its contract. The invariant: what is left of the text, written so that it ends at the offset, completes the buffer (`Left`).
 -- The measure is how many digits are left. Assumes nothing.
-use mathlib.Core.Path.{◌≡◌, refl}
-use Prim.Native.Nat.{ℕ, ◌-◌, ◌/◌, ◌%◌, ◌≤◌, ◌<◌}
-use native.Mathlib.Omega.{arith}
-use lib.Dec.{lit<}
+use mathlib.Core.Path.{◌≡◌}
+use Prim.Native.Nat.{◌<◌}
 use lib.ListN.{length}
-use lib.Seq.{length-sets}
-use Rattle.buffer.proofs.Left.{Left, left-start}
-use Rattle.digits.specs.Text.{ascii, text, last_text}
-use Rattle.digits.proofs.Text.{last_text-mod, text-most}
-use Rattle.lanes.proofs.Tails.{text-more, tail-ended}
-use Rattle.bit_eights.proofs.Eights.{eight-less, eight-store, last-sixteen}
-use borrow.Author.Rules.{rules}
+use Rattle.buffer.proofs.Left.{Left}
+use Rattle.digits.specs.Text.{ascii, text}
 use Rattle.bit_eights.proofs.binary.Given as goal
 
 abbrev pub invariant-loop-remain : goal.invariant-loop-remain

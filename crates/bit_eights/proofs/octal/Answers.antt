@@ -10,7 +10,6 @@ use Rattle.digits.specs.Text.{ascii, text, last_text}
 use Rattle.digits.proofs.Text.{last_text-mod, text-most}
 use Rattle.lanes.proofs.Tails.{tail-ended}
 use Rattle.bit_eights.proofs.Eights.{eight-less, eight-store, last-sixteen}
-use borrow.Author.Rules.{rules}
 use Rattle.bit_eights.proofs.octal.Goals as goal
 use Rattle.bit_eights.proofs.octal.Goals.{Start}
 

@@ -6,7 +6,6 @@ use native.Mathlib.Omega.{arith}
 use lib.Dec.{lit<}
 use Rattle.digits.proofs.Digits.{digits-length-le}
 use Rattle.bit_table.proofs.Rounded.{rounded-sum, length-rounded}
-use borrow.Author.Rules.{rules}
 use Rattle.bit_table.proofs.digit_count.Goals as goal
 use Rattle.bit_table.proofs.digit_count.Goals.{After-bit_length}
 

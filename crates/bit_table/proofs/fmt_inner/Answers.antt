@@ -6,7 +6,7 @@ use Prim.Native.Nat.{ℕ, ◌+◌, ◌-◌, ◌/◌, ◌%◌, ◌^◌}
 use native.Mathlib.Omega.{arith}
 use lib.ListN.{length, length-set}
 use lib.Seq.{length-sets}
-use Rattle.buffer.proofs.Left.{Left, left-start, left-room, left-store, left-last}
+use Rattle.buffer.proofs.Left.{left-start, left-room, left-store, left-last}
 use Rattle.digits.specs.Text.{text, last_text}
 use Rattle.digits.proofs.Text.{length-last_text}
 use Rattle.bit_table.specs.Bits.{table_byte}

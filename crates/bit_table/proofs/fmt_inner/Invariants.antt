@@ -1,16 +1,9 @@
 -- `bit_table::fmt_inner` meets its contract. The invariant: what is left of the text, written so that it ends at the offset, completes the buffer (`Left`).
 -- The measure is the number that is left. Assumes nothing.
-use mathlib.Core.Path.{◌≡◌, refl}
-use mathlib.Core.List.{List, [], ◌∷◌, ◌++◌}
-use Prim.Native.Nat.{ℕ, ◌+◌, ◌-◌, ◌/◌, ◌%◌, ◌^◌}
-use native.Mathlib.Omega.{arith}
-use lib.ListN.{length, length-set}
-use lib.Seq.{length-sets}
-use Rattle.buffer.proofs.Left.{Left, left-start, left-room, left-store, left-last}
-use Rattle.digits.specs.Text.{text, last_text}
-use Rattle.digits.proofs.Text.{length-last_text}
+use Prim.Native.Nat.{◌^◌}
+use Rattle.buffer.proofs.Left.{Left}
+use Rattle.digits.specs.Text.{text}
 use Rattle.bit_table.specs.Bits.{table_byte}
-use Rattle.bit_table.proofs.Shift.{pair-more, pair-last, one_last, shifted-less}
 use Rattle.bit_table.proofs.fmt_inner.Given as goal
 
 abbrev pub invariant-loop-remain : goal.invariant-loop-remain

@@ -4,7 +4,6 @@ use native.Mathlib.Omega.{arith}
 use lib.Pow.{pow_pos}
 use Rattle.bit_table.specs.Bits.{table_byte}
 use Rattle.bit_table.proofs.Shift.{one_shifted, last-digit, last-digit-below}
-use borrow.Author.Rules.{rules}
 use Rattle.bit_table.proofs.last_byte.Goals as goal
 
 pub overflow_sub-result : goal.overflow_sub-result

@@ -5,7 +5,6 @@ use Prim.Native.Nat.{◌^◌}
 use lib.ListN.{length-set}
 use Rattle.bit_table.specs.Bits.{table_byte}
 use Rattle.bit_table.proofs.Shift.{pair_is}
-use borrow.Author.Rules.{rules}
 use Rattle.bit_table.proofs.put2.Goals as goal
 
 pub bounds-buf-at-2 : goal.bounds-buf-at-2

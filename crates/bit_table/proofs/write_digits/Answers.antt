@@ -6,7 +6,6 @@ use Rattle.digits.specs.Text.{text}
 use Rattle.bit_table.specs.Bits.{lower, table_byte}
 use Rattle.digits.proofs.Powers.{above-one}
 use Rattle.bit_table.proofs.Table.{table-text}
-use borrow.Author.Rules.{rules}
 use Rattle.bit_table.proofs.write_digits.Goals as goal
 use Rattle.bit_table.proofs.write_digits.Goals.{After-digit_table}
 

@@ -2,11 +2,11 @@
 -- Assumes nothing.
 use mathlib.Core.Path.{◌≡◌, ◌∙◌}
 use mathlib.Core.List.{List}
-use Prim.Native.Nat.{ℕ, ◌+◌, ◌-◌, ◌≤◌, ◌<◌}
+use Prim.Native.Nat.{ℕ, ◌+◌, ◌≤◌, ◌<◌}
 use native.Mathlib.Omega.{arith}
 use lib.ListN.{length, get_or, take, drop, length-drop}
 use lib.Seq.{length-take-le, get_or-take, get_or-drop}
-use Rattle.buffer.proofs.Onward.{Onward, onward-start, onward-length, onward-store, onward-done}
+use Rattle.buffer.proofs.Onward.{onward-start, onward-length, onward-store, onward-done}
 use Rattle.buffer.proofs.copy.Goals as goal
 
 -- the run has len bytes, and byte i of it is byte from + i of the source

@@ -1,10 +1,8 @@
 -- `buffer::fill` meets its contract. The invariant: the copies so far stand from the start on. The measure is what is left of them.
 -- Assumes nothing.
-use mathlib.Core.Path.{◌≡◌}
 use Prim.Native.Nat.{◌-◌}
-use native.Mathlib.Omega.{arith}
-use lib.ListN.{length, replicate, length-replicate, get_or-replicate}
-use Rattle.buffer.proofs.Onward.{Onward, onward-start, onward-length, onward-store, onward-done}
+use lib.ListN.{replicate}
+use Rattle.buffer.proofs.Onward.{Onward}
 use Rattle.buffer.proofs.fill.Given as goal
 
 abbrev pub invariant-loop-made : goal.invariant-loop-made

@@ -7,7 +7,6 @@ use Rattle.kinds.specs.Kinds.{pattern, meaning}
 use Rattle.kinds.proofs.Patterns.{signed-own, signed-meaning}
 use Rattle.kinds.proofs.Signs.{widened}
 use mathlib.Core.Bool.{true}
-use borrow.Author.Rules.{rules}
 use Rattle.by_type.proofs.write_i32.Goals as goal
 use Rattle.by_type.proofs.write_i32.Goals.{After-pattern_i64}
 

@@ -5,7 +5,6 @@ use mir.Facts.{to_z-of_z}
 use Rattle.kinds.specs.Kinds.{pattern, meaning}
 use Rattle.kinds.proofs.Patterns.{signed-own, signed-meaning}
 use mathlib.Core.Bool.{true}
-use borrow.Author.Rules.{rules}
 use Rattle.by_type.proofs.write_i64.Goals as goal
 use Rattle.by_type.proofs.write_i64.Goals.{After-pattern_i64}
 

@@ -2,7 +2,6 @@
 use mathlib.Core.Path.{refl}
 use Prim.Native.Nat.{◌^◌}
 use borrow.Author.Tests.{lt-ltb}
-use borrow.Author.Rules.{rules}
 use Rattle.by_type.proofs.write_u64.Goals as goal
 
 pub write_value-requires : goal.write_value-requires

@@ -1,12 +1,11 @@
 -- `classes::end16` meets its contract: eight digits without the zeros in front, and the last eight. Assumes nothing.
 use mathlib.Core.Path.{ap₂, ◌∙◌}
 use mathlib.Core.List.{List, ◌++◌}
-use Prim.Native.Nat.{ℕ, ◌+◌, ◌/◌, ◌%◌, ◌<◌}
+use Prim.Native.Nat.{ℕ, ◌/◌, ◌%◌, ◌<◌}
 use native.Mathlib.Omega.{arith}
 use Rattle.digits.specs.Text.{ascii, decimal}
 use Rattle.digits.proofs.Text.{text-longer, text-some}
 use Rattle.classes.proofs.Heads.{ten, each-digit, last-text, head-length, head-text, stands, front-some, joined}
-use borrow.Author.Rules.{rules}
 use Rattle.classes.proofs.end16.Goals as goal
 
 small : (n : ℕ) → n < 10000000000000000 → n / 100000000 < 100000000

@@ -1,13 +1,12 @@
 -- `classes::end20` meets its contract: four digits without the zeros in front, the eight behind them, and the last eight. Assumes nothing.
 use mathlib.Core.Path.{◌≡◌, sym, ap, ap₂, ◌∙◌}
 use mathlib.Core.List.{List, ◌++◌}
-use Prim.Native.Nat.{ℕ, ◌+◌, ◌-◌, ◌/◌, ◌%◌, ◌^◌, ◌<◌, ◌≤◌}
+use Prim.Native.Nat.{ℕ, ◌-◌, ◌/◌, ◌%◌, ◌^◌, ◌<◌, ◌≤◌}
 use native.Mathlib.Nat.{div-div-eq-div-mul}
 use native.Mathlib.Omega.{arith}
 use Rattle.digits.specs.Text.{ascii, last_text, decimal}
 use Rattle.digits.proofs.Text.{text-longer, text-some}
 use Rattle.classes.proofs.Heads.{ten, each-digit, last-text, head-length, head-text, stands, front-some, joined, stored_on}
-use borrow.Author.Rules.{rules}
 use Rattle.classes.proofs.end20.Goals as goal
 
 small : (n : ℕ) → n < 2 ^ 64 → n / 10000000000000000 < 10000

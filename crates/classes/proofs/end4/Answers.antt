@@ -7,7 +7,6 @@ use lib.ListN.{length}
 use Rattle.digits.specs.Text.{ascii, decimal}
 use Rattle.digits.proofs.Text.{text-small}
 use Rattle.classes.proofs.Heads.{ten, each-digit, head-length, head-text, stands, longer}
-use borrow.Author.Rules.{rules}
 use Rattle.classes.proofs.end4.Goals as goal
 
 one : (n : ℕ) → n < 10 → length (decimal n) ≡ 1

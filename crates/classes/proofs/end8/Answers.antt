@@ -2,7 +2,6 @@
 use native.Mathlib.Omega.{arith}
 use Rattle.digits.specs.Text.{decimal}
 use Rattle.classes.proofs.Heads.{each-digit, head-length, head-text, stands, longer}
-use borrow.Author.Rules.{rules}
 use Rattle.classes.proofs.end8.Goals as goal
 
 pub text8-requires : goal.text8-requires

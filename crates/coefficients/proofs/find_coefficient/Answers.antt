@@ -1,7 +1,6 @@
 -- `coefficients::find_coefficient` meets its contract. Assumes nothing.
 use native.Mathlib.Omega.{arith}
 use Rattle.coefficients.proofs.Coefficients.{no-digit-10, fraction-from, no_lead, no_fraction, no-letter, found-coefficient}
-use borrow.Author.Rules.{rules}
 use Rattle.coefficients.proofs.find_coefficient.Goals as goal
 
 pub returns-then-text-start : goal.returns-then-text-start

@@ -2,7 +2,6 @@
 use mathlib.Core.Logic.{inl, inr}
 use mathlib.Core.Path.{refl}
 use native.Mathlib.Omega.{arith}
-use borrow.Author.Rules.{rules}
 use Rattle.coefficients.proofs.fraction.Goals as goal
 
 pub returns-then-text-at-eq46 : goal.returns-then-text-at-eq46

@@ -13,7 +13,6 @@ use Rattle.kinds.specs.Kinds.{split_of}
 use Rattle.kinds.specs.declared.Split.{Split}
 use Rattle.decimal.proofs.Ends.{front-nothing, front-no-room, front-room, front-within}
 use Rattle.decimal.proofs.Signed.{with-minus, no_minus}
-use borrow.Author.Rules.{rules}
 use Rattle.decimal.proofs.end_at_i64.Goals as goal
 use Rattle.decimal.proofs.end_at_i64.Goals.{Start}
 

@@ -9,7 +9,6 @@ use lib.ListN.{length}
 use Rattle.digits.specs.Text.{ascii, decimal}
 use Rattle.digits.proofs.Text.{text-most}
 use Rattle.decimal.proofs.Ends.{has_room, no_room}
-use borrow.Author.Rules.{rules}
 use Rattle.decimal.proofs.end_at_u64.Goals as goal
 
 any : (n end : ℕ) → n < 2 ^ 64 → 20 ≤ end → length (decimal n) ≤ end

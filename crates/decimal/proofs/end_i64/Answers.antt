@@ -6,7 +6,6 @@ use lib.ListN.{length, drop, length-drop}
 use lib.Seq.{take_all}
 use mir.Facts.{to_z-of_z}
 use Rattle.decimal.proofs.Ends.{start-within, from_start}
-use borrow.Author.Rules.{rules}
 use Rattle.decimal.proofs.end_i64.Goals as goal
 
 pub slice_bounds-result-count : goal.slice_bounds-result-count
@@ -17,8 +16,7 @@ slice_bounds-out-start c = start-within c.end_at_i64-at.ensures
 
 pub returns : goal.returns
 returns c =
-    let p = simp (to_z-of_z c.ranges.value) at c.end_at_i64-at.ensures in
-    (
+    let p = simp (to_z-of_z c.ranges.value) at c.end_at_i64-at.ensures in (
       take_all (length c.end_at_i64-at.new.out - c.end_at_i64-at.result) (drop c.end_at_i64-at.result c.end_at_i64-at.new.out) (omega (arith, length-drop c.end_at_i64-at.result c.end_at_i64-at.new.out)) ∙ from_start p,
       refl,
       ap (λ (k : ℕ). k + c.args.out.ref_ptr.1) p.answers,

@@ -5,7 +5,6 @@ use native.Mathlib.Omega.{arith}
 use lib.ListN.{length, drop, length-drop}
 use lib.Seq.{take_all}
 use Rattle.decimal.proofs.Ends.{start-within, from_start}
-use borrow.Author.Rules.{rules}
 use Rattle.decimal.proofs.end_u64.Goals as goal
 
 pub slice_bounds-result-count : goal.slice_bounds-result-count
@@ -15,9 +14,8 @@ pub slice_bounds-out-start : goal.slice_bounds-out-start
 slice_bounds-out-start c = start-within c.end_at_u64-at.ensures
 
 pub returns : goal.returns
-returns c =
-    (
-      take_all (length c.end_at_u64-at.new.out - c.end_at_u64-at.result) (drop c.end_at_u64-at.result c.end_at_u64-at.new.out) (omega (arith, length-drop c.end_at_u64-at.result c.end_at_u64-at.new.out)) ∙ from_start c.end_at_u64-at.ensures,
-      refl,
-      ap (λ (k : ℕ). k + c.args.out.ref_ptr.1) c.end_at_u64-at.ensures.answers,
-    )
+returns c = (
+  take_all (length c.end_at_u64-at.new.out - c.end_at_u64-at.result) (drop c.end_at_u64-at.result c.end_at_u64-at.new.out) (omega (arith, length-drop c.end_at_u64-at.result c.end_at_u64-at.new.out)) ∙ from_start c.end_at_u64-at.ensures,
+  refl,
+  ap (λ (k : ℕ). k + c.args.out.ref_ptr.1) c.end_at_u64-at.ensures.answers,
+)

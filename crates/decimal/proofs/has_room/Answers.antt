@@ -7,7 +7,6 @@ use lib.Dec.{lit<}
 use lib.ListN.{length}
 use Rattle.digits.specs.Text.{ascii, decimal}
 use Rattle.digits.proofs.Text.{text-some, text-most, text-fit}
-use borrow.Author.Rules.{rules}
 use Rattle.decimal.proofs.has_room.Goals as goal
 
 pub returns-then-room-ge20 : goal.returns-then-room-ge20

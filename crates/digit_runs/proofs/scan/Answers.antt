@@ -1,7 +1,6 @@
 -- `digit_runs::scan` meets its contract. The invariant: up to i there are digits, and the value is what they stand for. Assumes nothing.
-use Rattle.std.proofs.Common.{◌-◌, length, arith, rules}
-use Rattle.radix.specs.Radix.{digit_byte}
-use Rattle.digit_runs.proofs.Runs.{Sofar, sofar-none, sofar-more, scanned, scanned-over, no_digit, over-top, below_top}
+use Rattle.std.proofs.Common.{arith}
+use Rattle.digit_runs.proofs.Runs.{sofar-none, sofar-more, scanned, scanned-over, no_digit, over-top, below_top}
 use Rattle.digit_runs.proofs.scan.Goals as goal
 
 pub loop-i-init : goal.loop-i-init

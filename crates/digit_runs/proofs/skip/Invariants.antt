@@ -1,8 +1,7 @@
 -- `digit_runs::skip` meets its contract. The invariant: up to i there are digits. Assumes nothing.
-use Rattle.std.proofs.Common.{◌-◌, length, arith, rules}
+use Rattle.std.proofs.Common.{◌-◌, length}
 use Rattle.radix.specs.Radix.{digit_byte}
 use Rattle.digit_runs.specs.Runs.{Digits}
-use Rattle.digit_runs.proofs.Runs.{no-digits, run_more, run-stops, run_ends}
 use Rattle.digit_runs.proofs.skip.Given as goal
 
 abbrev pub invariant-loop-i : goal.invariant-loop-i

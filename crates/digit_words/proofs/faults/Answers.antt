@@ -1,7 +1,6 @@
 -- `digit_words::faults` meets its contract. Assumes nothing.
 use Rattle.lanes.specs.Lanes.{word}
 use Rattle.digit_words.proofs.Masks.{faultless}
-use Rattle.std.proofs.Common.{rules}
 use Rattle.digit_words.proofs.faults.Goals as goal
 
 pub returns : goal.returns

@@ -1,5 +1,5 @@
 -- `digit_words::number_around` meets its contract. Assumes nothing.
-use Rattle.std.proofs.Common.{◌∙◌, lit≤, rules}
+use Rattle.std.proofs.Common.{◌∙◌, lit≤}
 use Rattle.digit_words.proofs.Shifts.{padded-below, padded-value, around, around-below}
 use Rattle.digit_words.proofs.number_around.Goals as goal
 

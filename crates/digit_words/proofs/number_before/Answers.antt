@@ -1,5 +1,5 @@
 -- `digit_words::number_before` meets its contract. Assumes nothing.
-use Rattle.std.proofs.Common.{◌-◌, ◌∙◌, lit≤, rules}
+use Rattle.std.proofs.Common.{◌-◌, ◌∙◌, lit≤}
 use Rattle.words.specs.Bytes.{bytes_of}
 use Rattle.digit_words.proofs.Shifts.{Below-take, padded-below, padded-value, before}
 use Rattle.digit_words.proofs.number_before.Goals as goal

@@ -1,6 +1,6 @@
 -- `digits::digit_count` meets its contract: the digits that the bits of n | 1 are worth, or one more. Assumes nothing.
 use mathlib.Core.Path.{◌≡◌, refl, sym, ◌∙◌}
-use Prim.Native.Nat.{ℕ, ◌+◌, ◌*◌, ◌/◌, ◌<◌}
+use Prim.Native.Nat.{ℕ, ◌+◌, ◌*◌, ◌/◌}
 use native.Mathlib.Omega.{arith}
 use lib.Count.{leading_le}
 use lib.Dec.{lit<}

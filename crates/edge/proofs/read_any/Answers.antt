@@ -1,6 +1,5 @@
 -- `edge::read_any` meets its contract. It is the promise of what it calls. Assumes nothing.
 use Rattle.edge.proofs.Edge.{at_once}
-use borrow.Author.Rules.{rules}
 use Rattle.edge.proofs.read_any.Goals as goal
 
 pub returns-then-short : goal.returns-then-short

@@ -7,7 +7,6 @@ use Rattle.eights.specs.Steps.{pairs_of}
 use Rattle.eights.proofs.Lanes.{four_of, pairs-low, pairs-high, pairs_small, pairs-four, div_is, mod-is}
 use Rattle.words.specs.Bytes.{bytes_of}
 use Rattle.eights.proofs.Bytes.{bytes-eight_of}
-use borrow.Author.Rules.{rules}
 use Rattle.eights.proofs.eight.Goals as goal
 
 arg : (n : ℕ) → n < 100000000 → n / 10000 + (n - n / 10000 * 10000) * 2 ^ 32 % 2 ^ 64 ≡ n % 10000 * 4294967296 + n / 10000

@@ -5,7 +5,6 @@ use Rattle.eights.proofs.Lanes.{paired, pairs-low, pairs-high, pairs-four}
 use Rattle.eights.specs.Steps.{tens_of}
 use Rattle.words.specs.Bytes.{bytes_of}
 use Rattle.eights.proofs.Bytes.{bytes-four_of}
-use borrow.Author.Rules.{rules}
 use Rattle.eights.proofs.four.Goals as goal
 
 pub tens2-requires : goal.tens2-requires

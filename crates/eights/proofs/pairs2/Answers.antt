@@ -10,7 +10,6 @@ use Rattle.digits.specs.Digits.{Below}
 use Rattle.lanes.specs.Lanes.{word}
 use Rattle.eights.specs.Steps.{pairs_of}
 use Rattle.eights.proofs.Lanes.{hundreds, sub_is, le_is}
-use borrow.Author.Rules.{rules}
 use Rattle.eights.proofs.pairs2.Goals as goal
 
 stepped : (x : ℕ) → x % 4294967296 < 10000 → x / 4294967296 < 10000 →

@@ -10,7 +10,6 @@ use Rattle.digits.specs.Digits.{Below}
 use Rattle.lanes.specs.Lanes.{word}
 use Rattle.eights.specs.Steps.{tens_of}
 use Rattle.eights.proofs.Lanes.{tens, sub_is, le_is}
-use borrow.Author.Rules.{rules}
 use Rattle.eights.proofs.tens2.Goals as goal
 
 stepped : (y : ℕ) → y % 65536 < 100 → y / 65536 < 100 → y * 2 ^ 8 % 2 ^ 32 ≡ tens_of y + bit_and (y * 103 / 2 ^ 10) 0x000f_000f * 2559

@@ -10,7 +10,6 @@ use Rattle.digits.specs.Digits.{Below}
 use Rattle.lanes.specs.Lanes.{word}
 use Rattle.eights.specs.Steps.{tens_of}
 use Rattle.eights.proofs.Lanes.{tens, sub_is, le_is}
-use borrow.Author.Rules.{rules}
 use Rattle.eights.proofs.tens4.Goals as goal
 
 stepped : (y : ℕ) → y % 4294967296 % 65536 < 100 → y % 4294967296 / 65536 < 100 → y / 4294967296 % 65536 < 100 → y / 4294967296 / 65536 < 100 →

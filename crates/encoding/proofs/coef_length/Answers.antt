@@ -1,6 +1,5 @@
 -- `encoding::coef_length` meets its contract. Assumes nothing.
 use native.Mathlib.Omega.{arith}
-use borrow.Author.Rules.{rules}
 use Rattle.encoding.proofs.Encoding.{one-length, fraction-length}
 use Rattle.encoding.proofs.coef_length.Goals as goal
 

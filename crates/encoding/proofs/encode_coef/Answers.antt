@@ -3,7 +3,6 @@ use mathlib.Core.Path.{◌≡◌}
 use Prim.Native.Nat.{ℕ, suc, ◌+◌, ◌<◌}
 use native.Mathlib.Omega.{arith}
 use lib.ListN.{length-set}
-use borrow.Author.Rules.{rules}
 use Rattle.scientific.specs.Sci.{exponent_of}
 use Rattle.scientific.proofs.Tens as T
 use Rattle.encoding.proofs.Encoding.{one-digit, fraction}

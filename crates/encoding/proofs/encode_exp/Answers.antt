@@ -1,7 +1,6 @@
 -- `encoding::encode_exp` meets its contract: where there is one digit, the last is written over the first. Assumes nothing.
 use native.Mathlib.Omega.{arith}
 use lib.ListN.{length-set}
-use borrow.Author.Rules.{rules}
 use Rattle.encoding.proofs.Encoding.{exp-least, exp-digits}
 use Rattle.encoding.proofs.encode_exp.Goals as goal
 

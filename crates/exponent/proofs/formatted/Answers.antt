@@ -1,6 +1,5 @@
 -- `exponent::formatted` meets its contract: the parts that it answers are the text. Assumes nothing.
 use native.Mathlib.Omega.{arith}
-use borrow.Author.Rules.{rules}
 use Rattle.exponent.proofs.Joined.{coef-length, exp-most, texts}
 use Rattle.exponent.proofs.formatted.Goals as goal
 

@@ -4,7 +4,6 @@ use mathlib.Core.Path.{◌≡◌}
 use Prim.Native.Nat.{◌+◌}
 use native.Mathlib.Omega.{arith}
 use lib.ListN.{length}
-use borrow.Author.Rules.{rules}
 use Rattle.digits.specs.Text.{decimal}
 use Rattle.exponent.specs.Coefficient.{scaled_text}
 use Rattle.encoding.proofs.Encoding.{exp-least}

@@ -5,7 +5,6 @@ use lib.Dec.{lit<, lit≤}
 use Rattle.radix.specs.Radix.{lower}
 use Rattle.digit_runs.proofs.Runs.{sofar-none, sofar-more, no_digit}
 use Rattle.exponent_texts.proofs.Exponents.{two_at}
-use borrow.Author.Rules.{rules}
 use Rattle.exponent_texts.proofs.exponent_digits.Goals as goal
 
 pub returns-then-text-from : goal.returns-then-text-from

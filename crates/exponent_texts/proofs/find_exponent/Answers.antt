@@ -4,7 +4,6 @@ use native.Mathlib.Omega.{arith}
 use Rattle.coefficients.specs.Coefficients.{IsCoefficient, CoefficientOf}
 use Rattle.exponent_texts.proofs.Exponents.{two-small}
 use Rattle.exponent_texts.proofs.Magnitudes.{wrong-tail, wrong-none, size-inside, found-over, found-held, found-reads, canonical-rules}
-use borrow.Author.Rules.{rules}
 use Rattle.exponent_texts.proofs.find_exponent.Goals as goal
 use Rattle.exponent_texts.proofs.find_exponent.Goals.{In-Number}
 

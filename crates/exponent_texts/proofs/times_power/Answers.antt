@@ -5,7 +5,6 @@ use native.Mathlib.Omega.{arith}
 use Rattle.scientific.proofs.Tens as T
 use Rattle.digit_runs.proofs.Runs.{over-top, below_top}
 use Rattle.exponent_texts.proofs.Exponents.{product-zero, product-held, product-over, large}
-use borrow.Author.Rules.{rules}
 use Rattle.exponent_texts.proofs.times_power.Goals as goal
 
 pub returns-then-n-eq0 : goal.returns-then-n-eq0

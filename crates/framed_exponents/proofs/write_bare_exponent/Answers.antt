@@ -5,7 +5,6 @@ use Rattle.exponent.proofs.Joined.{expo-is, sized, text-is}
 use Rattle.scaling.specs.Coefficient.{precision_of}
 use Rattle.writing.specs.Text.{exponent_letter}
 use Rattle.writing.proofs.Cases.{settles, exponent-refused, exponent-kept}
-use borrow.Author.Rules.{rules}
 use Rattle.framed_exponents.proofs.write_bare_exponent.Goals as goal
 
 pub returns-in_default : goal.returns-in_default

@@ -3,7 +3,6 @@ use mathlib.Core.Option.{none}
 use native.Mathlib.Omega.{arith}
 use Rattle.exponent.proofs.Joined.{expo-is, sized, text-is}
 use Rattle.writing.specs.Text.{exponent_letter}
-use borrow.Author.Rules.{rules}
 use Rattle.framed_exponents.proofs.write_bare_in_full.Goals as goal
 
 pub write_scaled-requires : goal.write_scaled-requires
@@ -11,8 +10,7 @@ write_scaled-requires c =
     sized 0 c.in_full.result c.args.n none c.in_full.ensures (omega (arith, c.in_full.ensures.high))
 
 pub returns : goal.returns
-returns c =
-    (
-      omega (arith, expo-is 0 c.in_full.result c.args.n none c.in_full.ensures, c.in_full.ensures.high),
-      rw (← text-is (exponent_letter c.args.format) c.in_full.result c.args.n none c.in_full.ensures) c.write_scaled.ensures,
-    )
+returns c = (
+  omega (arith, expo-is 0 c.in_full.result c.args.n none c.in_full.ensures, c.in_full.ensures.high),
+  rw (← text-is (exponent_letter c.args.format) c.in_full.result c.args.n none c.in_full.ensures) c.write_scaled.ensures,
+)

@@ -14,7 +14,6 @@ use Rattle.formatted.specs.declared.Formatted.{Formatted}
 use Rattle.writing.proofs.Cases.{settles-room, settles-done, exponent-refused, exponent-kept}
 use Rattle.framing.proofs.Laid.{need-is, no_room, in-room}
 use Rattle.framed_exponents.proofs.Parted.{Digits, digits_of, refused-of}
-use borrow.Author.Rules.{rules}
 use Rattle.framed_exponents.proofs.write_framed_exponent.Goals as goal
 use Rattle.framed_exponents.proofs.write_framed_exponent.Goals.{After-lay_out-layout, In-Parts}
 

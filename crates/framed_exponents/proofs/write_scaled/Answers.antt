@@ -10,7 +10,6 @@ use Rattle.exponent.specs.Coefficient.{scaled_text}
 use Rattle.scaling.specs.declared.Scaled.{Scaled}
 use Rattle.writing.specs.Text.{exponent_letter, unframed}
 use Rattle.writing.proofs.Cases.{lacks-room, has_room}
-use borrow.Author.Rules.{rules}
 use Rattle.framed_exponents.proofs.write_scaled.Goals as goal
 use Rattle.framed_exponents.proofs.write_scaled.Goals.{After-size-size, Else-negative, Then-negative}
 

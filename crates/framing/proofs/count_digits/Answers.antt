@@ -2,7 +2,6 @@
 use mathlib.Core.Path.{sym, ap, ◌∙◌}
 use lib.ListN.{length}
 use Rattle.framing.proofs.Laid.{numeral-decimal, numeral-radix}
-use borrow.Author.Rules.{rules}
 use Rattle.framing.proofs.count_digits.Goals as goal
 
 pub returns-then-format-eq0 : goal.returns-then-format-eq0

@@ -5,7 +5,6 @@ use native.Mathlib.Omega.{arith}
 use lib.ListN.{length}
 use Rattle.padding.specs.Padding.{Planned, sign_of, prefix_of}
 use Rattle.padding.proofs.Padding.{sign-few, prefix-few, padded-length}
-use borrow.Author.Rules.{rules}
 use Rattle.framing.proofs.lay_out.Goals as goal
 use Rattle.framing.proofs.lay_out.Goals.{After-prefix_length-prefix}
 

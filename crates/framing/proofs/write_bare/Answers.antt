@@ -11,7 +11,6 @@ use Rattle.buffer.proofs.AtEnd.{length-ended}
 use Rattle.writing.specs.Text.{unframed, numeral}
 use Rattle.writing.proofs.Cases.{lacks-room, has_room}
 use Rattle.framing.proofs.Laid.{numeral-few}
-use borrow.Author.Rules.{rules}
 use Rattle.framing.proofs.write_bare.Goals as goal
 use Rattle.framing.proofs.write_bare.Goals.{Else-negative, Then-negative}
 

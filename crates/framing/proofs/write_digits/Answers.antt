@@ -12,7 +12,6 @@ use Rattle.buffer.specs.AtEnd.{ended, begun}
 use Rattle.writing.specs.Promise.{Places}
 use Rattle.writing.specs.Text.{numeral}
 use Rattle.framing.proofs.Laid.{numeral-decimal}
-use borrow.Author.Rules.{rules}
 use Rattle.framing.proofs.write_digits.Goals as goal
 use Rattle.framing.proofs.write_digits.Goals.{Start}
 

@@ -7,7 +7,6 @@ use Rattle.padding.specs.Padding.{sign_of, prefix_of}
 use Rattle.framing.specs.Laid.{Laid}
 use Rattle.writing.specs.Text.{numeral}
 use Rattle.framing.proofs.Laid.{numeral-few, need-is, no_room, in-room}
-use borrow.Author.Rules.{rules}
 use Rattle.framing.proofs.write_framed.Goals as goal
 use Rattle.framing.proofs.write_framed.Goals.{After-lay_out-layout}
 

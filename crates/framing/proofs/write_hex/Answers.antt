@@ -8,7 +8,6 @@ use Rattle.digits.proofs.Text.{length-text}
 use Rattle.radix.specs.Radix.{digit_byte}
 use Rattle.writing.specs.Text.{numeral}
 use Rattle.writing.proofs.Cases.{lacks-room, has_room}
-use borrow.Author.Rules.{rules}
 use Rattle.framing.proofs.write_hex.Goals as goal
 use Rattle.framing.proofs.write_hex.Goals.{After-count-len}
 

@@ -11,7 +11,6 @@ use Rattle.digits.specs.Digits.{digits}
 use Rattle.digits.proofs.Count.{odd-length, odd-fits}
 use Rattle.digits.proofs.Digits.{digits-length}
 use Rattle.lanes.proofs.Lanes.{square}
-use borrow.Author.Rules.{rules}
 use Rattle.hex_digits.proofs.count.Goals as goal
 
 bits : (k : ℕ) → 16 ^ k ≡ 2 ^ (k + k + (k + k))

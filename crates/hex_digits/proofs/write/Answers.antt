@@ -12,7 +12,6 @@ use Rattle.digits.specs.Text.{text, last_text}
 use Rattle.digits.proofs.Text.{text-small, text-some, text-most}
 use Rattle.lanes.specs.Letters.{digit_byte}
 use Rattle.lanes.proofs.Tails.{text-more, drop-joined, tail-ended}
-use borrow.Author.Rules.{rules}
 use Rattle.hex_digits.proofs.write.Goals as goal
 use Rattle.hex_digits.proofs.write.Goals.{After-one, Else-n-lt4294967296, Start, Then-n-lt4294967296, Then-n-lt65536}
 
@@ -99,8 +98,7 @@ tail16-requires c =
 
 pub returns : goal.returns
 returns c =
-    let l = in-sixteen (goal.at.returns c).Else-n-lt4294967296 in
-    (
+    let l = in-sixteen (goal.at.returns c).Else-n-lt4294967296 in (
       refl,
       stands (goal.at.returns c).Start 16 l.0 c.tail16.ensures.0
           (rw (c.eight-front.ensures, c.eight-back.ensures, drop-joined (digit_byte c.args.letter) 16 hex (16 - c.args.len) 8 8 c.args.n (omega arith)) at c.tail16.ensures.1),

@@ -1,7 +1,6 @@
 -- `kinds::in_type` meets its contract. Assumes nothing.
 use mathlib.Core.Path.{◌≡◌, sym}
 use Prim.Native.Nat.{◌-◌}
-use borrow.Author.Rules.{rules}
 use native.Mathlib.Omega.{arith}
 use Rattle.kinds.proofs.Patterns.{in-low, in-high, in_whole, in-unsigned, one_shifted}
 use Rattle.kinds.proofs.in_type.Goals as goal

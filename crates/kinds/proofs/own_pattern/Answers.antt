@@ -1,6 +1,5 @@
 -- `kinds::own_pattern` meets its contract. Assumes nothing.
 use mathlib.Core.Path.{◌∙◌}
-use borrow.Author.Rules.{rules}
 use Rattle.kinds.proofs.Patterns.{own-meaning, shifted_back}
 use Rattle.kinds.proofs.own_pattern.Goals as goal
 

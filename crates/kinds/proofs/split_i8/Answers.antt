@@ -2,7 +2,6 @@
 use mathlib.Core.Path.{ap, ◌∙◌}
 use mir.Facts.{to_z-of_z, sfits_widen}
 use mir.Syntax.{w8, w64}
-use borrow.Author.Rules.{rules}
 use Rattle.kinds.specs.Kinds.{split_of}
 use Rattle.kinds.proofs.Signs.{widened}
 use Rattle.kinds.proofs.split_i8.Goals as goal

@@ -1,6 +1,5 @@
 -- `kinds::split_pattern` meets its contract. Assumes nothing.
 use mathlib.Core.Path.{refl}
-use borrow.Author.Rules.{rules}
 use native.Mathlib.Omega.{arith}
 use Rattle.kinds.proofs.Patterns.{split-low, split-high}
 use Rattle.kinds.proofs.split_pattern.Goals as goal

@@ -5,7 +5,6 @@ use lib.Dec.{lit<, lit≤}
 use Rattle.digits.specs.Text.{last_text}
 use Rattle.lanes.specs.Letters.{digit_byte}
 use Rattle.lanes.proofs.Letters.{bytes-last, below_last}
-use borrow.Author.Rules.{rules}
 use Rattle.lanes.proofs.eight.Goals as goal
 
 pub spelled-requires : goal.spelled-requires

@@ -5,7 +5,6 @@ use lib.Dec.{lit<, lit≤}
 use Rattle.digits.specs.Text.{ascii, last_text}
 use Rattle.lanes.proofs.Lanes.{below_more}
 use Rattle.lanes.proofs.Letters.{bytes-last, below_last}
-use borrow.Author.Rules.{rules}
 use Rattle.lanes.proofs.eight_octal.Goals as goal
 
 pub shown-requires : goal.shown-requires

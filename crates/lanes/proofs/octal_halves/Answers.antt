@@ -5,7 +5,6 @@ use native.Mathlib.Nat.{mod-eq_of_lt}
 use native.Mathlib.Omega.{arith}
 use lib.Dec.{lit<}
 use Rattle.lanes.proofs.Lanes.{spread-first}
-use borrow.Author.Rules.{rules}
 use Rattle.lanes.proofs.octal_halves.Goals as goal
 
 pub returns : goal.returns

@@ -1,6 +1,5 @@
 -- `lanes::one` meets its contract: a digit, or a letter. Assumes nothing.
 use borrow.Author.Tests.{lt-ltb, le-ltb}
-use borrow.Author.Rules.{rules}
 use Rattle.lanes.proofs.one.Goals as goal
 
 pub returns-then-n-lt10 : goal.returns-then-n-lt10

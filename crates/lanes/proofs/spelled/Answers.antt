@@ -5,7 +5,6 @@ use native.Mathlib.Omega.{arith}
 use lib.Dec.{lit<}
 use Rattle.lanes.specs.Lanes.{word}
 use Rattle.lanes.proofs.Letters.{bytes_most, letters-most, text-most, hex-bytes}
-use borrow.Author.Rules.{rules}
 use Rattle.lanes.proofs.spelled.Goals as goal
 use Rattle.lanes.proofs.spelled.Goals.{Start}
 

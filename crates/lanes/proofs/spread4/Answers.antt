@@ -8,7 +8,6 @@ use Rattle.digits.specs.Digits.{last}
 use Rattle.lanes.specs.Lanes.{word}
 use Rattle.lanes.proofs.Lanes.{spread-first}
 use Rattle.lanes.proofs.Halves.{halves_in}
-use borrow.Author.Rules.{rules}
 use Rattle.lanes.proofs.spread4.Goals as goal
 
 abbrev Bytes : ℕ → ℕ

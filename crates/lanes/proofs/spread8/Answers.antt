@@ -3,7 +3,6 @@ use mathlib.Core.Path.{refl}
 use lib.Dec.{lit<}
 use Rattle.lanes.specs.Lanes.{word}
 use Rattle.lanes.proofs.Halves.{halves_in}
-use borrow.Author.Rules.{rules}
 use Rattle.lanes.proofs.spread8.Goals as goal
 
 pub returns : goal.returns

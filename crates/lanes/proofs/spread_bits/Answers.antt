@@ -3,7 +3,6 @@ use native.Mathlib.Omega.{arith}
 use Prim.Native.Nat.{◌*◌}
 use lib.Bits.{and_le_r}
 use Rattle.lanes.proofs.Bits.{bits-spread}
-use borrow.Author.Rules.{rules}
 use Rattle.lanes.proofs.spread_bits.Goals as goal
 
 pub overflow_add-result : goal.overflow_add-result

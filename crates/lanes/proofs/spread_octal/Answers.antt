@@ -6,7 +6,6 @@ use lib.Dec.{lit<}
 use Rattle.digits.specs.Digits.{last}
 use Rattle.lanes.specs.Lanes.{word}
 use Rattle.lanes.proofs.Halves.{halves_in}
-use borrow.Author.Rules.{rules}
 use Rattle.lanes.proofs.spread_octal.Goals as goal
 use Rattle.lanes.proofs.spread_octal.Goals.{After-octal_halves-halves}
 

@@ -5,7 +5,6 @@ use native.Mathlib.Nat.{div-one, mod-eq_of_lt}
 use native.Mathlib.Omega.{arith}
 use Rattle.digits.specs.Digits.{last}
 use Rattle.lanes.specs.Lanes.{word}
-use borrow.Author.Rules.{rules}
 use Rattle.lanes.proofs.swapped.Goals as goal
 
 swaps : (n : ℕ) → n < 2 ^ 32 → n / 2 ^ 24 + n / 2 ^ 16 % 256 * 2 ^ 8 % 2 ^ 32 + n / 2 ^ 8 % 256 * 2 ^ 16 % 2 ^ 32 + n % 256 * 2 ^ 24 % 2 ^ 32 ≡ word 256 (last 256 4 n)

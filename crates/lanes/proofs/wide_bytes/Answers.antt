@@ -1,7 +1,6 @@
 -- `lanes::wide_bytes` meets its contract: two steps, each of which gives what it moves room above it. Assumes nothing.
 use native.Mathlib.Omega.{arith}
 use Rattle.lanes.proofs.Wider.{bytes-wider}
-use borrow.Author.Rules.{rules}
 use Rattle.lanes.proofs.wide_bytes.Goals as goal
 
 pub returns : goal.returns

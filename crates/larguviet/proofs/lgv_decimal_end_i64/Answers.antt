@@ -1,5 +1,4 @@
 -- `larguviet::lgv_decimal_end_i64` meets its contract: it is the promise of what it calls. Assumes nothing.
-use borrow.Author.Rules.{rules}
 use mir.Facts.{to_z-of_z}
 use Rattle.larguviet.proofs.lgv_decimal_end_i64.Goals as goal
 

@@ -5,7 +5,6 @@ use Rattle.outcomes.specs.declared.Outcome.TheVariants.{Done}
 use Rattle.reader.specs.Answers.{Answers}
 use Rattle.edge.specs.Edge.{set}
 use Rattle.edge.proofs.Edge.{at_once}
-use borrow.Author.Rules.{rules}
 use Rattle.larguviet.proofs.lgv_read.Goals as goal
 
 pub returns-then-found : goal.returns-then-found

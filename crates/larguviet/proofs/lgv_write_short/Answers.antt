@@ -1,6 +1,5 @@
 -- `larguviet::lgv_write_short` meets its contract. It is the promise of what it calls. Assumes nothing.
 use Rattle.edge.proofs.Edge.{edged}
-use borrow.Author.Rules.{rules}
 use Rattle.larguviet.proofs.lgv_write_short.Goals as goal
 
 pub returns : goal.returns

@@ -3,7 +3,6 @@ use Prim.Native.Nat.{◌-◌}
 use native.Mathlib.Omega.{arith}
 use Rattle.kinds.proofs.Patterns.{one_shifted}
 use Rattle.outcomes.proofs.Ranges.{minus-in, minus-out, signed-in, signed-out, unsigned-in, unsigned-out}
-use borrow.Author.Rules.{rules}
 use Rattle.outcomes.proofs.of_magnitude.Goals as goal
 
 pub overflow_sub-n : goal.overflow_sub-n

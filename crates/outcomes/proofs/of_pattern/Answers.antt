@@ -4,7 +4,6 @@ use native.Mathlib.Omega.{arith}
 use lib.Pow.{pow_mono}
 use Rattle.kinds.proofs.Patterns.{one_shifted}
 use Rattle.outcomes.proofs.Ranges.{pattern-out, pattern-low, pattern-signed-low, pattern-high}
-use borrow.Author.Rules.{rules}
 use Rattle.outcomes.proofs.of_pattern.Goals as goal
 
 pub overflow_sub-result-then-half-p-2 : goal.overflow_sub-result-then-half-p-2

@@ -1,7 +1,6 @@
 -- `padding::plan` meets its contract. Assumes nothing.
 use native.Mathlib.Omega.{arith}
 use Rattle.padding.proofs.Padding.{plan-none, plan-zeros, plan-left, plan-centre, plan-right}
-use borrow.Author.Rules.{rules}
 use Rattle.padding.proofs.plan.Goals as goal
 
 pub returns-then-w-len : goal.returns-then-w-len

@@ -2,7 +2,6 @@
 use mathlib.Core.Path.{sym, ap}
 use lib.ListN.{length}
 use Rattle.padding.proofs.Padding.{prefix-two, no-prefix-low, no-prefix-high}
-use borrow.Author.Rules.{rules}
 use Rattle.padding.proofs.prefix_length.Goals as goal
 
 pub returns-then-code-le4 : goal.returns-then-code-le4

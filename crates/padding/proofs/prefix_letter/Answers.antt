@@ -1,6 +1,5 @@
 -- `padding::prefix_letter` meets its contract. Assumes nothing.
 use Rattle.padding.proofs.Padding.{prefix-hex}
-use borrow.Author.Rules.{rules}
 use Rattle.padding.proofs.prefix_letter.Goals as goal
 
 pub returns : goal.returns

@@ -5,7 +5,6 @@ use native.Mathlib.Omega.{arith}
 use lib.ListN.{replicate, length-append, length-replicate}
 use Rattle.buffer.proofs.AtEnd.{ended-on}
 use Rattle.padding.specs.Padding.{sign_of, prefix_of}
-use borrow.Author.Rules.{rules}
 use Rattle.padding.proofs.put_front.Goals as goal
 
 pub returns : goal.returns

@@ -5,7 +5,6 @@ use Prim.Native.Nat.{suc, ◌-◌}
 use native.Mathlib.Omega.{arith}
 use lib.ListN.{length-set}
 use Rattle.buffer.proofs.AtEnd.{ended-sets}
-use borrow.Author.Rules.{rules}
 use Rattle.padding.proofs.put_letter.Goals as goal
 
 pub bounds-out-end-2 : goal.bounds-out-end-2

@@ -5,7 +5,6 @@ use native.Mathlib.Omega.{arith}
 use lib.ListN.{length}
 use Rattle.padding.specs.Padding.{prefix_of}
 use Rattle.padding.proofs.Padding.{prefix-two, no-prefix-low, no-prefix-high, put-none}
-use borrow.Author.Rules.{rules}
 use Rattle.padding.proofs.put_prefix.Goals as goal
 
 pub put_letter-requires : goal.put_letter-requires

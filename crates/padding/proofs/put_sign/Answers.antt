@@ -6,7 +6,6 @@ use native.Mathlib.Omega.{arith}
 use lib.ListN.{length}
 use Rattle.padding.specs.Padding.{sign_of}
 use Rattle.padding.proofs.Padding.{put-none, put_one}
-use borrow.Author.Rules.{rules}
 use Rattle.padding.proofs.put_sign.Goals as goal
 use Rattle.padding.proofs.put_sign.Goals.{Then-negative, Then-plus}
 

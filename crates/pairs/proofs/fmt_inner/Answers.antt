@@ -6,7 +6,6 @@ use mathlib.Core.Logic.{⊎_elim}
 use Prim.Native.Nat.{ℕ, ◌+◌, ◌-◌, ◌*◌, ◌%◌, ◌≤◌, ◌<◌}
 use native.Mathlib.Nat.{le_refl}
 use native.Mathlib.Omega.{arith}
-use borrow.Author.Tests.{eqb-true, eqb-false}
 use lib.ListN.{length-set, get_or}
 use Rattle.buffer.proofs.Left.{left-start, left-room, left-last}
 use Rattle.digits.specs.Text.{decimal}
@@ -57,13 +56,13 @@ joined : (c : Joined-remain-gt9) →
     c.if-remain-gt9.remain c.if-remain-gt9.offset c.if-remain-gt9.buf
 joined c =
     elim c.if-remain-gt9.branch [
-      then-remain-gt9 w ↦
-        let h = rest-room c.loop-remain.invariant 1 w.if-remain-gt9.true in
-        rw (w.buf-is, w.offset-is, w.remain-is, w.put2.ensures) (record {
-          rest = rest-store c.loop-remain.invariant 1 w.if-remain-gt9.true (c.loop-remain.offset - 2) (omega arith);
-          small = omega (arith, c.loop-remain-test.false);
-        })
-    | else-remain-gt9 w ↦ rw (w.buf-is, w.offset-is, w.remain-is) (record { rest = c.loop-remain.invariant; small = omega (arith, w.if-remain-gt9.false) })
+      | then-remain-gt9 w ↦
+          let h = rest-room c.loop-remain.invariant 1 w.if-remain-gt9.true in
+          rw (w.buf-is, w.offset-is, w.remain-is, w.put2.ensures) (record {
+            rest = rest-store c.loop-remain.invariant 1 w.if-remain-gt9.true (c.loop-remain.offset - 2) (omega arith);
+            small = omega (arith, c.loop-remain-test.false);
+          })
+      | else-remain-gt9 w ↦ rw (w.buf-is, w.offset-is, w.remain-is) (record { rest = c.loop-remain.invariant; small = omega (arith, w.if-remain-gt9.false) })
     ]
 
 -- where a last digit is written it is all that is left

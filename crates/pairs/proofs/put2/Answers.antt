@@ -3,7 +3,6 @@ use native.Mathlib.Numerals.{add-one}
 use native.Mathlib.Omega.{arith}
 use lib.ListN.{length-set}
 use Rattle.digits.proofs.Tables.{pair-text}
-use borrow.Author.Rules.{rules}
 use Rattle.pairs.proofs.put2.Goals as goal
 
 pub bounds-buf-at-2 : goal.bounds-buf-at-2

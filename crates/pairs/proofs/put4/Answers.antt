@@ -7,7 +7,6 @@ use lib.Seq.{sets}
 use Rattle.digits.specs.Text.{ascii, last_text}
 use Rattle.digits.proofs.Text.{length-last_text, last_text-split, last_text-mod}
 use Rattle.words.proofs.Stores.{sets-append}
-use borrow.Author.Rules.{rules}
 use Rattle.pairs.proofs.put4.Goals as goal
 
 pub returns : goal.returns

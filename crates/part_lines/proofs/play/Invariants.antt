@@ -1,6 +1,5 @@
 -- `part_lines::play` is safe and ends. Assumes nothing.
 use Prim.Native.Nat.{◌-◌}
-use borrow.Author.Rules.{rules}
 use lib.ListN.{length}
 use Rattle.part_lines.proofs.play.Given as goal
 

@@ -1,6 +1,5 @@
 -- `part_steps::judge` meets its contract. Assumes nothing.
 use mathlib.Core.Path.{sym, ◌∙◌}
-use borrow.Author.Rules.{rules}
 use Rattle.part_answers.proofs.Answers.{wrote-refused, wrote-out, wrote-no-room, wrote-room}
 use Rattle.part_steps.proofs.judge.Goals as goal
 

@@ -1,6 +1,5 @@
 -- `part_steps::scan_start` meets its contract. Assumes nothing.
 use mathlib.Core.Path.{sym}
-use borrow.Author.Rules.{rules}
 use Rattle.part_answers.proofs.Answers.{sign-unknown, sign-known}
 use Rattle.part_steps.proofs.scan_start.Goals as goal
 

@@ -1,7 +1,6 @@
 -- `part_steps::scan_step` meets its contract: a law of one part more for each way that it goes. Assumes nothing.
 use mathlib.Core.Path.{sym, ap, ◌∙◌}
 use Prim.Native.Nat.{ℕ, ◌+◌}
-use borrow.Author.Rules.{rules}
 use Rattle.parts.specs.Parts.{held}
 use Rattle.part_answers.specs.declared.Measured.TheVariants as measure
 use Rattle.part_answers.proofs.Answers.{more-unknown, more-refused, more-out, more-leaves, more-done}

@@ -6,7 +6,7 @@ use Prim.Native.Nat.{◌-◌, ◌/◌, ◌%◌, ◌<◌}
 use native.Mathlib.Omega.{arith}
 use lib.Dec.{lit<}
 use lib.ListN.{length-set}
-use Rattle.buffer.proofs.Left.{Left, left-start, left-store, left-last}
+use Rattle.buffer.proofs.Left.{left-start, left-store, left-last}
 use Rattle.digits.specs.Text.{ascii, decimal}
 use Rattle.digits.proofs.Text.{text-step, text-small, text-some}
 use Rattle.parts.proofs.write_number.Goals as goal

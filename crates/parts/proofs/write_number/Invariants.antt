@@ -1,14 +1,7 @@
 -- `parts::write_number` meets its contract. The invariant: the decimal of what is left completes the buffer. The measure is what is left.
 -- Assumes nothing.
-use mathlib.Core.Path.{refl}
-use mathlib.Core.List.{[], ◌∷◌}
-use Prim.Native.Nat.{◌-◌, ◌/◌, ◌%◌, ◌<◌}
-use native.Mathlib.Omega.{arith}
-use lib.Dec.{lit<}
-use lib.ListN.{length-set}
-use Rattle.buffer.proofs.Left.{Left, left-start, left-store, left-last}
-use Rattle.digits.specs.Text.{ascii, decimal}
-use Rattle.digits.proofs.Text.{text-step, text-small, text-some}
+use Rattle.buffer.proofs.Left.{Left}
+use Rattle.digits.specs.Text.{decimal}
 use Rattle.parts.proofs.write_number.Given as goal
 
 abbrev pub invariant-loop-rest : goal.invariant-loop-rest

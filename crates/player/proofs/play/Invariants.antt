@@ -1,6 +1,5 @@
 -- `player::play` is safe and ends. Assumes nothing.
 use Prim.Native.Nat.{◌-◌}
-use borrow.Author.Rules.{rules}
 use lib.ListN.{length}
 use Rattle.player.proofs.play.Given as goal
 

@@ -6,7 +6,6 @@ use lib.ListN.{length}
 use Rattle.digits.specs.Digits.{digits}
 use Rattle.radix.specs.Radix.{radix, digit_bits}
 use Rattle.radix.proofs.Lengths.{radix-digits}
-use borrow.Author.Rules.{rules}
 use Rattle.radix.proofs.count.Goals as goal
 
 by_bits : (format n k : ℕ) → digit_bits format ≡ k → length (digits (2 ^ k) n) ≡ length (radix format n)

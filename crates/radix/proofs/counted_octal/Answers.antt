@@ -2,7 +2,6 @@
 use native.Mathlib.Omega.{arith}
 use lib.Dec.{lit<, lit≤}
 use Rattle.bit_table.proofs.Table.{plain-text}
-use borrow.Author.Rules.{rules}
 use Rattle.radix.proofs.counted_octal.Goals as goal
 
 pub octal-requires : goal.octal-requires

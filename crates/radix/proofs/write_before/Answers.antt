@@ -3,7 +3,6 @@ use mathlib.Core.Path.{◌≡◌}
 use borrow.Author.Tests.{ne_eqb}
 use Rattle.digits.specs.Text.{text}
 use Rattle.radix.specs.Radix.{upper, radix}
-use borrow.Author.Rules.{rules}
 use Rattle.radix.proofs.write_before.Goals as goal
 use Rattle.radix.proofs.write_before.Goals.{Else-format-eq3}
 

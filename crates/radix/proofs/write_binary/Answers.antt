@@ -6,7 +6,6 @@ use lib.ListN.{length}
 use Rattle.digits.specs.Text.{text}
 use Rattle.digits.proofs.Text.{length-text}
 use Rattle.radix.specs.Radix.{lower}
-use borrow.Author.Rules.{rules}
 use Rattle.radix.proofs.write_binary.Goals as goal
 
 pub counted_binary-requires : goal.counted_binary-requires

@@ -7,7 +7,6 @@ use lib.ListN.{length}
 use Rattle.digits.specs.Text.{text}
 use Rattle.digits.proofs.Text.{length-text}
 use Rattle.lanes.specs.Letters.{digit_byte}
-use borrow.Author.Rules.{rules}
 use Rattle.radix.proofs.write_hex.Goals as goal
 use Rattle.radix.proofs.write_hex.Goals.{After-count}
 

@@ -6,7 +6,6 @@ use lib.ListN.{length}
 use Rattle.digits.specs.Text.{text}
 use Rattle.digits.proofs.Text.{length-text}
 use Rattle.radix.specs.Radix.{lower}
-use borrow.Author.Rules.{rules}
 use Rattle.radix.proofs.write_octal.Goals as goal
 
 pub counted_octal-requires : goal.counted_octal-requires

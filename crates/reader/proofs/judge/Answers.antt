@@ -4,7 +4,6 @@ use Prim.Native.Nat.{ℕ, ◌≤◌}
 use native.Mathlib.Omega.{arith}
 use Rattle.reading.specs.Formats.{form}
 use Rattle.reader.proofs.Outcomes.{at_code}
-use borrow.Author.Rules.{rules}
 use Rattle.reader.proofs.judge.Goals as goal
 
 pub returns-in-0 : goal.returns-in-0

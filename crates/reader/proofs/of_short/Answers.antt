@@ -1,9 +1,7 @@
 -- `reader::of_short` meets its contract. Assumes nothing.
 use mathlib.Core.Bool.{true, false≢true}
-use mathlib.Core.Logic.{⊎_elim}
 use mathlib.Core.Path.{◌≡◌, sym, ◌∙◌}
 use native.Mathlib.Omega.{arith}
-use borrow.Author.Rules.{rules}
 use Rattle.reader.proofs.of_short.Goals as goal
 use Rattle.reader.proofs.of_short.Goals.{then-minus+else-n-eq0, else-minus}
 

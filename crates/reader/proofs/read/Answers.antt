@@ -4,7 +4,6 @@ use native.Mathlib.Omega.{arith}
 use Rattle.whole_texts.proofs.Texts.{empty}
 use Rattle.kinds.proofs.Sizes.{known-range}
 use Rattle.reader.proofs.Outcomes.{passed}
-use borrow.Author.Rules.{rules}
 use Rattle.reader.proofs.read.Goals as goal
 
 pub returns-then-format-gt6 : goal.returns-then-format-gt6

@@ -3,7 +3,6 @@ use mathlib.Core.Path.{subst}
 use Rattle.radix.specs.Radix.{lower}
 use Rattle.whole_texts.specs.Wholes.{FoundOf}
 use Rattle.reader.proofs.Answers.{minus-signed, minus-some, decimal-over, decimal-held}
-use borrow.Author.Rules.{rules}
 use Rattle.reader.proofs.read_decimal.Goals as goal
 
 pub returns-then-over : goal.returns-then-over

@@ -2,7 +2,6 @@
 use mathlib.Core.Path.{subst}
 use Rattle.exponent_texts.specs.Exponents.{ExponentOf}
 use Rattle.reader.proofs.Answers.{exponent-signed, exponent-some, exponent-over, exponent-held}
-use borrow.Author.Rules.{rules}
 use Rattle.reader.proofs.read_exponent.Goals as goal
 
 pub returns-then-over : goal.returns-then-over

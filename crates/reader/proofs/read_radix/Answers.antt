@@ -4,7 +4,6 @@ use mathlib.Core.Path.{subst}
 use Rattle.radix.specs.Radix.{digit_byte}
 use Rattle.whole_texts.specs.Wholes.{FoundOf}
 use Rattle.reader.proofs.Answers.{radix-over, radix-held}
-use borrow.Author.Rules.{rules}
 use Rattle.reader.proofs.read_radix.Goals as goal
 
 pub returns-then-over : goal.returns-then-over

@@ -7,7 +7,6 @@ use Rattle.outcomes.specs.declared.Outcome.TheVariants.{Done}
 use Rattle.reader.specs.Answers.{Answers}
 use Rattle.kinds.proofs.Sizes.{known-range}
 use Rattle.reader.proofs.Outcomes.{short-answer}
-use borrow.Author.Rules.{rules}
 use Rattle.reader.proofs.read_short.Goals as goal
 
 pub returns-then-text-eq0 : goal.returns-then-text-eq0

@@ -1,7 +1,6 @@
 -- `reader::read_short_hex` meets its contract. Assumes nothing.
 use mathlib.Core.Bool.{false≢true}
 use Rattle.reader.proofs.Outcomes.{hex-answer}
-use borrow.Author.Rules.{rules}
 use Rattle.reader.proofs.read_short_hex.Goals as goal
 
 pub returns-then-format-lt3 : goal.returns-then-format-lt3

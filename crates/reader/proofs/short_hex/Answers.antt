@@ -11,7 +11,6 @@ use Rattle.outcomes.specs.declared.Outcome.TheVariants.{Done}
 use Rattle.reader.specs.Answers.{Judges}
 use Rattle.kinds.proofs.Sizes.{known-range}
 use Rattle.reader.proofs.Outcomes.{hex-held}
-use borrow.Author.Rules.{rules}
 use Rattle.reader.proofs.short_hex.Goals as goal
 
 pub returns-then-text-eq0 : goal.returns-then-text-eq0

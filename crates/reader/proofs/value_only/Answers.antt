@@ -1,6 +1,5 @@
 -- `reader::value_only` meets its contract. Assumes nothing.
 use mathlib.Core.Bool.{false≢true}
-use borrow.Author.Rules.{rules}
 use Rattle.reader.proofs.value_only.Goals as goal
 
 pub returns : goal.returns

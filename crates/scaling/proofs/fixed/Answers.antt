@@ -1,7 +1,6 @@
 -- `scaling::fixed` meets its contract: one law for each return. Assumes nothing.
 use mathlib.Core.Path.{sym, ◌∙◌}
 use native.Mathlib.Omega.{arith}
-use borrow.Author.Rules.{rules}
 use Rattle.scientific.proofs.Tens as T
 use Rattle.scaling.proofs.Scaling.{two, scales-long, scales-carry, scales-stay}
 use Rattle.scaling.proofs.fixed.Goals as goal

@@ -1,6 +1,5 @@
 -- `scaling::in_full` meets its contract. Assumes nothing.
 use native.Mathlib.Omega.{arith}
-use borrow.Author.Rules.{rules}
 use Rattle.scientific.proofs.Tens as T
 use Rattle.scaling.proofs.Scaling.{drops-none, drops-done}
 use Rattle.scaling.proofs.in_full.Goals as goal

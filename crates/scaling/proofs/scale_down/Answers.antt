@@ -2,7 +2,6 @@
 use mathlib.Core.Path.{ap}
 use Prim.Native.Nat.{ℕ, ◌+◌, ◌/◌}
 use native.Mathlib.Omega.{arith}
-use borrow.Author.Rules.{rules}
 use Rattle.scientific.specs.Sci.{rounded}
 use Rattle.scaling.proofs.Scaling.{halved}
 use Rattle.scaling.proofs.scale_down.Goals as goal

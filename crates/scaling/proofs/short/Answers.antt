@@ -1,7 +1,6 @@
 -- `scaling::short` meets its contract. The invariant: so many zeros were dropped from n, and more than nothing is left, which is the measure.
 -- Assumes nothing.
 use mathlib.Core.Path.{◌≡◌}
-use mathlib.Core.Logic.{⊎_elim}
 use Prim.Native.Nat.{ℕ, ◌%◌}
 use native.Mathlib.Omega.{arith}
 use Rattle.scaling.proofs.Scaling.{scales-one, Drops, drops-none, drops-more, drops-done}
@@ -34,11 +33,11 @@ record Joined (n e m f : ℕ) : Type 0 where
 joined : (c : Joined-coef-eq0) → Joined c.args.n c.args.exp c.if-coef-eq0.coef c.if-coef-eq0.coef_prec
 joined c =
     elim c.if-coef-eq0.branch [
-      then-coef-eq0 w ↦ rw (w.coef-is, w.coef_prec-is) (record {
+      | then-coef-eq0 w ↦ rw (w.coef-is, w.coef_prec-is) (record {
         drops = (drops-more c.loop-coef.invariant c.requires 2 w.if-coef-eq0.true).1;
         one = λ z. omega (arith, w.if-coef-eq0.true, c.loop-coef-test.false);
       })
-    | else-coef-eq0 w ↦ rw (w.coef-is, w.coef_prec-is) (record { drops = c.loop-coef.invariant; one = w.if-coef-eq0.false })
+      | else-coef-eq0 w ↦ rw (w.coef-is, w.coef_prec-is) (record { drops = c.loop-coef.invariant; one = w.if-coef-eq0.false })
     ]
 
 pub overflow_sub-coef_prec-then-coef-eq0-2 : goal.overflow_sub-coef_prec-then-coef-eq0-2

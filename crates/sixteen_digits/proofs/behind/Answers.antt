@@ -1,6 +1,5 @@
 -- `sixteen_digits::behind` meets its contract. Assumes nothing.
 use Rattle.sixteen_digits.proofs.Splices.{behind-is, behind-fits}
-use borrow.Author.Rules.{rules}
 use Rattle.sixteen_digits.proofs.behind.Goals as goal
 
 pub overflow_add-result : goal.overflow_add-result

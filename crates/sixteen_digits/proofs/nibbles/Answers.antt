@@ -2,7 +2,6 @@
 use Prim.Native.Nat.{◌/◌}
 use native.Mathlib.Omega.{arith}
 use lib.Bits.{and_le_r}
-use borrow.Author.Rules.{rules}
 use Rattle.sixteen_digits.proofs.nibbles.Goals as goal
 
 pub overflow_mul-result : goal.overflow_mul-result

@@ -1,8 +1,6 @@
 -- `sixteen_digits::number_of` meets its contract. Assumes nothing.
 use mathlib.Core.Bool.{false≢true}
-use mathlib.Core.Logic.{⊎_elim}
 use Rattle.sixteen_digits.proofs.Splices.{whole}
-use borrow.Author.Rules.{rules}
 use Rattle.sixteen_digits.proofs.number_of.Goals as goal
 use Rattle.sixteen_digits.proofs.number_of.Goals.{then-s-eq48+else-s-gt1, else-s-eq48}
 

@@ -5,7 +5,6 @@ use native.Mathlib.Omega.{arith}
 use lib.Dec.{lit≤}
 use Rattle.sixteen_digits.specs.Hex.{Digits}
 use Rattle.sixteen_digits.proofs.Splices.{sixteen-digits}
-use borrow.Author.Rules.{rules}
 use Rattle.sixteen_digits.proofs.up_to_sixteen.Goals as goal
 
 pub returns-then-v : goal.returns-then-v

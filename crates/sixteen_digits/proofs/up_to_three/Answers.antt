@@ -8,7 +8,6 @@ use lib.Dec.{lit<, lit≤}
 use lib.Pow.{shr_le}
 use Rattle.sixteen_digits.specs.Hex.{Digits}
 use Rattle.sixteen_digits.proofs.Splices.{three-digits}
-use borrow.Author.Rules.{rules}
 use Rattle.sixteen_digits.proofs.up_to_three.Goals as goal
 
 pub returns-then-v : goal.returns-then-v

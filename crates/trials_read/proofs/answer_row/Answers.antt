@@ -1,6 +1,5 @@
 -- `trials_read::answer_row` is safe: each number ends within the line. Assumes nothing.
 use native.Mathlib.Omega.{arith}
-use borrow.Author.Rules.{rules}
 use Rattle.fields.proofs.Fields.{number-within}
 use Rattle.trials_read.proofs.answer_row.Goals as goal
 

@@ -1,6 +1,5 @@
 -- `trials_read::play` is safe and ends. Assumes nothing.
 use Prim.Native.Nat.{◌-◌}
-use borrow.Author.Rules.{rules}
 use lib.ListN.{length}
 use Rattle.trials_read.proofs.play.Given as goal
 

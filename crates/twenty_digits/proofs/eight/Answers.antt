@@ -1,5 +1,5 @@
 -- `twenty_digits::eight` meets its contract. Assumes nothing.
-use Rattle.std.proofs.Common.{refl, lit≤, rules}
+use Rattle.std.proofs.Common.{refl, lit≤}
 use Rattle.twenty_digits.proofs.Numbers.{faultless, eight-number}
 use Rattle.twenty_digits.proofs.eight.Goals as goal
 

@@ -1,5 +1,5 @@
 -- `twenty_digits::number_of` meets its contract. Assumes nothing.
-use Rattle.std.proofs.Common.{refl, rules}
+use Rattle.std.proofs.Common.{refl}
 use Rattle.twenty_digits.proofs.number_of.Goals as goal
 
 pub returns-then-n-le16 : goal.returns-then-n-le16

@@ -1,6 +1,5 @@
 -- `twenty_digits::three` meets its contract. Assumes nothing.
 use Rattle.twenty_digits.proofs.Numbers.{three-is}
-use Rattle.std.proofs.Common.{rules}
 use Rattle.twenty_digits.proofs.three.Goals as goal
 
 pub returns : goal.returns

@@ -1,5 +1,5 @@
 -- `twenty_digits::up_to_seven` meets its contract. Assumes nothing.
-use Rattle.std.proofs.Common.{refl, arith, rules}
+use Rattle.std.proofs.Common.{refl, arith}
 use Rattle.twenty_digits.proofs.Numbers.{faultless, seven-number}
 use Rattle.twenty_digits.proofs.up_to_seven.Goals as goal
 

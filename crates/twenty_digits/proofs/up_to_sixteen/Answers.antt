@@ -1,5 +1,5 @@
 -- `twenty_digits::up_to_sixteen` meets its contract. Assumes nothing.
-use Rattle.std.proofs.Common.{refl, arith, lit≤, rules}
+use Rattle.std.proofs.Common.{refl, arith, lit≤}
 use Rattle.digit_words.proofs.Masks.{or-zero}
 use Rattle.twenty_digits.proofs.Numbers.{faultless, sixteen-number}
 use Rattle.twenty_digits.proofs.up_to_sixteen.Goals as goal

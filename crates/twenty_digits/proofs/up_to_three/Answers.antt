@@ -1,5 +1,5 @@
 -- `twenty_digits::up_to_three` meets its contract. Assumes nothing.
-use Rattle.std.proofs.Common.{refl, ⊎_elim, arith, rules}
+use Rattle.std.proofs.Common.{refl, arith}
 use Rattle.twenty_digits.proofs.Numbers.{three-number}
 use Rattle.twenty_digits.proofs.up_to_three.Goals as goal
 use Rattle.twenty_digits.proofs.up_to_three.Goals.{then-a-eq0+else-n-gt1, else-a-eq0}

@@ -1,5 +1,5 @@
 -- `twenty_digits::up_to_twenty` meets its contract. Assumes nothing.
-use Rattle.std.proofs.Common.{refl, arith, lit≤, rules}
+use Rattle.std.proofs.Common.{refl, arith, lit≤}
 use lib.Bits.{bit_or}
 use Rattle.digit_words.proofs.Masks.{or-zero}
 use Rattle.twenty_digits.proofs.Numbers.{faultless, twenty-number}

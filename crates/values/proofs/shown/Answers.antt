@@ -2,7 +2,6 @@
 use mathlib.Core.Path.{refl}
 use Rattle.kinds.specs.Kinds.{meaning}
 use Rattle.writing.proofs.Cases.{decimal-shown, radix-shown, known-range}
-use borrow.Author.Rules.{rules}
 use Rattle.values.proofs.shown.Goals as goal
 
 pub returns-then-format-eq0 : goal.returns-then-format-eq0

@@ -6,7 +6,6 @@ use Rattle.scaling.specs.Coefficient.{precision_of}
 use Rattle.scientific.specs.Layout.{exp_text}
 use Rattle.writing.specs.Text.{exponent_letter}
 use Rattle.writing.proofs.Cases.{exponent-writes, unframes}
-use borrow.Author.Rules.{rules}
 use Rattle.values.proofs.write_exponent_plainly.Goals as goal
 
 pub returns : goal.returns

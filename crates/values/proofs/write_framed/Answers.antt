@@ -3,7 +3,6 @@ use mathlib.Core.Path.{refl}
 use lib.ListN.{length}
 use Rattle.kinds.specs.Kinds.{meaning}
 use Rattle.writing.proofs.Cases.{plain-writes, exponent-writes, fill_known}
-use borrow.Author.Rules.{rules}
 use Rattle.values.proofs.write_framed.Goals as goal
 
 pub write_framed-need-requires : goal.write_framed-need-requires

@@ -2,7 +2,6 @@
 use native.Mathlib.Omega.{arith}
 use Rattle.kinds.specs.Kinds.{meaning}
 use Rattle.values.proofs.Plain.{digit-places}
-use borrow.Author.Rules.{rules}
 use Rattle.values.proofs.write_hex.Goals as goal
 
 pub returns : goal.returns

@@ -8,7 +8,6 @@ use Rattle.writing.specs.declared.Options.{Options}
 use Rattle.writing.specs.Promise.{Unframed, Places}
 use Rattle.writing.specs.Text.{unframed, numeral, text_of}
 use Rattle.values.proofs.Plain.{bare-places, digit-places}
-use borrow.Author.Rules.{rules}
 use Rattle.values.proofs.write_plainly.Goals as goal
 use Rattle.values.proofs.write_plainly.Goals.{After-shown-number}
 

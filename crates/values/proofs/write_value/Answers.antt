@@ -1,12 +1,11 @@
 -- `values::write_value` meets its contract. Assumes nothing.
 use mathlib.Core.Bool.{true}
 use mathlib.Core.Path.{◌≡◌, refl, sym, ◌∙◌}
-use borrow.Author.Tests.{not-true, not-false}
+use borrow.Author.Tests.{not-true}
 use lib.ListN.{length}
 use Rattle.kinds.specs.Kinds.{meaning}
 use Rattle.writing.specs.Promise.{Unframed, known_options}
 use Rattle.writing.proofs.Cases.{options-refused, plain-writes}
-use borrow.Author.Rules.{rules}
 use Rattle.values.proofs.write_value.Goals as goal
 use Rattle.values.proofs.write_value.Goals.{Else-not-options_known, Then-not-options-2}
 

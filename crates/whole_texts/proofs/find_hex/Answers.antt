@@ -1,6 +1,5 @@
 -- `whole_texts::find_hex` meets its contract. Assumes nothing.
 use Rattle.whole_texts.proofs.Shorts.{short-hex}
-use borrow.Author.Rules.{rules}
 use Rattle.whole_texts.proofs.find_hex.Goals as goal
 
 pub returns : goal.returns

@@ -2,7 +2,6 @@
 use borrow.Author.Tests.{lt-ltb}
 use Rattle.digit_runs.proofs.Runs.{front-inside, front-allowed}
 use Rattle.whole_texts.proofs.Shorts.{short-decimal}
-use borrow.Author.Rules.{rules}
 use Rattle.whole_texts.proofs.find_short.Goals as goal
 
 pub slice_bounds-number_of-count : goal.slice_bounds-number_of-count
@@ -12,8 +11,7 @@ pub slice_bounds-number_of-start : goal.slice_bounds-number_of-start
 slice_bounds-number_of-start c = front-inside c.front-start.ensures c.requires
 
 pub returns : goal.returns
-returns c =
-    (
-      front-allowed c.front-start.ensures,
-      λ z f. short-decimal c.args.text.now _ _ (front-inside c.front-start.ensures c.requires) (c.number_of.ensures z) c.args.may c.front-start.ensures (λ h. f (lt-ltb 0 c.front-start.result h)),
-    )
+returns c = (
+  front-allowed c.front-start.ensures,
+  λ z f. short-decimal c.args.text.now _ _ (front-inside c.front-start.ensures c.requires) (c.number_of.ensures z) c.args.may c.front-start.ensures (λ h. f (lt-ltb 0 c.front-start.result h)),
+)

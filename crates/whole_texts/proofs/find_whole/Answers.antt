@@ -1,10 +1,8 @@
 -- `whole_texts::find_whole` meets its contract. Assumes nothing.
-use mathlib.Core.Logic.{⊎_elim}
 use mathlib.Core.Path.{refl}
 use Rattle.reading.proofs.Faithful.{letters-alphabet}
 use Rattle.digit_runs.proofs.Runs.{front-inside}
 use Rattle.whole_texts.proofs.Texts.{found-stop, found_none, found-reads, found-broken, found_number}
-use borrow.Author.Rules.{rules}
 use Rattle.whole_texts.proofs.find_whole.Goals as goal
 use Rattle.whole_texts.proofs.find_whole.Goals.{then-text-start-eq48+else-end-gt1, else-text-start-eq48}
 
@@ -18,12 +16,11 @@ pub returns-then-end-start : goal.returns-then-end-start
 returns-then-end-start c = found_none _ _ (letters-alphabet _ _ c.requires.3 c.requires.1) refl _ _ _ _ c.front-start.ensures c.scan-run.ensures.stops c.if-end-text.false c.if-end-start.true
 
 pub returns-then-end-gt1 : goal.returns-then-end-gt1
-returns-then-end-gt1 c =
-    (
-      _,
-      found-reads _ _ (letters-alphabet _ _ c.requires.3 c.requires.1) refl _ _ _ _ c.front-start.ensures c.scan-run.ensures.stops c.if-end-text.false c.if-end-start.false,
-      found-broken _ _ (letters-alphabet _ _ c.requires.3 c.requires.1) refl _ _ _ _ c.front-start.ensures c.scan-run.ensures.stops c.if-end-text.false c.if-end-start.false c.if-text-start-eq48.true c.if-end-gt1.true,
-    )
+returns-then-end-gt1 c = (
+  _,
+  found-reads _ _ (letters-alphabet _ _ c.requires.3 c.requires.1) refl _ _ _ _ c.front-start.ensures c.scan-run.ensures.stops c.if-end-text.false c.if-end-start.false,
+  found-broken _ _ (letters-alphabet _ _ c.requires.3 c.requires.1) refl _ _ _ _ c.front-start.ensures c.scan-run.ensures.stops c.if-end-text.false c.if-end-start.false c.if-text-start-eq48.true c.if-end-gt1.true,
+)
 
 pub returns : goal.returns
 returns c =

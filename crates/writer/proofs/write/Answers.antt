@@ -1,8 +1,6 @@
 -- `writer::write` meets its contract. Assumes nothing.
 use mathlib.Core.Path.{sym, ◌∙◌}
-use borrow.Author.Tests.{not-true, not-false}
 use Rattle.writing.proofs.Cases.{known-range, type-refused, value-refused, judged}
-use borrow.Author.Rules.{rules}
 use Rattle.writer.proofs.write.Goals as goal
 
 pub returns-then-not-is_known : goal.returns-then-not-is_known

@@ -4,7 +4,6 @@ use mathlib.Core.List.{List}
 use mathlib.Core.Option.{none}
 use mathlib.Core.Path.{◌≡◌, refl, sym, ◌∙◌}
 use Prim.Native.Nat.{ℕ, ◌≤◌}
-use borrow.Author.Tests.{not-true, not-false}
 use native.Mathlib.Omega.{arith}
 use lib.ListN.{length}
 use Rattle.kinds.specs.Kinds.{known, is_in_type, meaning}
@@ -14,7 +13,6 @@ use Rattle.writing.specs.declared.Written.{Written}
 use Rattle.writing.specs.Promise.{house, settled, answer, Writes, Places}
 use Rattle.writing.specs.Text.{exponent_letter, text_of}
 use Rattle.writing.proofs.Cases.{known-range, options-refused, plain-writes, exponent-writes, exponent-kept, settles, unframes, house-unframed, house-known, house-unknown, type-refused, value-refused, judged}
-use borrow.Author.Rules.{rules}
 use Rattle.writer.proofs.write_short.Goals as goal
 use Rattle.writer.proofs.write_short.Goals.{Else-not-in_type}
 

@@ -1,5 +1,5 @@
 -- `fields::field::digits_at` meets its contract. The invariant: once a byte is passed, the place lies within the line. Assumes nothing.
-use Rattle.std.proofs.Common.{◌-◌, ◌<◌, ◌≤◌, length, arith, rules}
+use Rattle.std.proofs.Common.{◌<◌, arith}
 use Rattle.fields.proofs.field.digits_at.Goals as goal
 
 pub returns-then-from-at : goal.returns-then-from-at

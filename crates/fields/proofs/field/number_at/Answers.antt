@@ -1,5 +1,5 @@
 -- `fields::field::number_at` meets its contract. Assumes nothing.
-use Rattle.std.proofs.Common.{arith, rules}
+use Rattle.std.proofs.Common.{arith}
 use Rattle.fields.proofs.Fields.{number-within}
 use Rattle.fields.proofs.field.number_at.Goals as goal
 

@@ -1,5 +1,5 @@
 -- `fields::field::numbers_at` is safe and ends. Assumes nothing.
-use Rattle.std.proofs.Common.{◌-◌, ◌≤◌, arith, rules}
+use Rattle.std.proofs.Common.{arith}
 use Rattle.fields.proofs.Fields.{number-within}
 use Rattle.fields.proofs.field.numbers_at.Goals as goal
 

@@ -1,6 +1,5 @@
 -- `fields::field::numbers_at` is safe and ends. Assumes nothing.
-use Rattle.std.proofs.Common.{◌-◌, ◌≤◌, arith, rules}
-use Rattle.fields.proofs.Fields.{number-within}
+use Rattle.std.proofs.Common.{◌-◌, ◌≤◌}
 use Rattle.fields.proofs.field.numbers_at.Given as goal
 
 abbrev pub invariant-loop-count : goal.invariant-loop-count

@@ -1,5 +1,5 @@
 -- `fields::lines::find` meets its contract. Assumes nothing.
-use Rattle.std.proofs.Common.{◌-◌, ◌≤◌, length, rules}
+use Rattle.std.proofs.Common.{◌-◌, ◌≤◌, length}
 use Rattle.fields.proofs.lines.find.Given as goal
 
 abbrev pub invariant-loop-at : goal.invariant-loop-at

@@ -1,5 +1,5 @@
 -- `fields::output::put_all` is safe and ends. Assumes nothing.
-use Rattle.std.proofs.Common.{◌-◌, length, rules}
+use Rattle.std.proofs.Common.{◌-◌, length}
 use Rattle.fields.proofs.output.put_all.Given as goal
 
 abbrev pub invariant-loop-i : goal.invariant-loop-i

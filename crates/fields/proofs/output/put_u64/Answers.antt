@@ -1,5 +1,5 @@
 -- `fields::output::put_u64` is safe. Assumes nothing.
-use Rattle.std.proofs.Common.{arith, rules}
+use Rattle.std.proofs.Common.{arith}
 use Rattle.decimal.proofs.Ends.{start-within}
 use Rattle.fields.proofs.output.put_u64.Goals as goal
 

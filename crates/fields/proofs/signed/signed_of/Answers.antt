@@ -1,5 +1,5 @@
 -- `fields::signed::signed_of` meets its contract. Assumes nothing.
-use Rattle.std.proofs.Common.{◌≡◌, ◌-◌, ap, arith, w64, to_z, rules}
+use Rattle.std.proofs.Common.{◌≡◌, ◌-◌, ap, arith, w64, to_z}
 use Rattle.fields.proofs.signed.signed_of.Goals as goal
 
 pub returns : goal.returns

@@ -1,7 +1,6 @@
 -- `formatted::Formatted::length` meets its contract: three steps from no part on. Assumes nothing.
 use mathlib.Core.Path.{refl}
 use mathlib.Core.List.{[], ◌∷◌}
-use borrow.Author.Rules.{rules}
 use Rattle.formatted.proofs.Formatted.length.Goals as goal
 
 pub returns : goal.returns

@@ -1,6 +1,5 @@
 -- `formatted::Formatted::size` meets its contract. Assumes nothing.
 use native.Mathlib.Omega.{arith}
-use borrow.Author.Rules.{rules}
 use Rattle.parts.specs.Parts.{true_length, parts_length}
 use Rattle.formatted.proofs.Formatted.size.Goals as goal
 

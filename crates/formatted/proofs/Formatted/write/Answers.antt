@@ -1,12 +1,9 @@
 -- `formatted::Formatted::write` meets its contract: after a refusal nothing has been written, and after DONE the text alone.
 -- Assumes nothing.
-use mathlib.Core.Path.{◌≡◌, refl, sym, subst, ◌∙◌}
-use mathlib.Core.List.{[], ◌∷◌}
+use mathlib.Core.Path.{◌≡◌, refl, sym, ◌∙◌}
 use native.Mathlib.Omega.{arith}
-use borrow.Author.Rules.{rules}
 use lib.ListN.{length}
-use Rattle.part_answers.specs.Answers.{wrote, wrote_number}
-use Rattle.part_answers.specs.declared.Wrote.{Wrote}
+use Rattle.part_answers.specs.Answers.{wrote}
 use Rattle.part_answers.proofs.Answers.{wrote-done, is-done, left_alone, writes-done}
 use Rattle.formatted.specs.Three.{parts_of}
 use Rattle.formatted.proofs.Formatted.write.Goals as goal

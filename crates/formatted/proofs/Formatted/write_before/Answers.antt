@@ -1,7 +1,6 @@
 -- `formatted::Formatted::write_before` meets its contract: behind each call the parts that are left complete the buffer. Assumes nothing.
 use mathlib.Core.List.{List, [], ◌∷◌}
 use Prim.Native.Nat.{ℕ}
-use borrow.Author.Rules.{rules}
 use Rattle.parts.specs.Parts.{Inside}
 use Rattle.parts.specs.declared.Part.{Part}
 use Rattle.parts.proofs.Writing.{Rest, rest-start, rest-room, rest-step, rest-sign-room, rest-sign}

@@ -1,6 +1,5 @@
 -- `part_lines::list::twelve` is safe and ends. Assumes nothing.
 use Prim.Native.Nat.{◌-◌, ◌≤◌}
-use borrow.Author.Rules.{rules}
 use Rattle.part_lines.proofs.list.twelve.Given as goal
 
 abbrev pub invariant-loop-i : goal.invariant-loop-i
