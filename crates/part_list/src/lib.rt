@@ -9,7 +9,7 @@ use part_answers::Wrote;
 use parts::Part;
 
 // The text at the start of out. The whole list is checked before the first byte is written.
-#[tactic(auto, using(crate::proofs::Judged::is_written))]
+#[tactic(auto, using(crate::proofs::Judged::done_is_written))]
 pub fn write(sign: u32, list: &[Part], src: &[u8], out: &mut [u8]) -> Wrote
     ensures { Writes sign list.now src.now out.old result out.new }
 {

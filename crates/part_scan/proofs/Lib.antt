@@ -1,2 +1,3 @@
--- A law of a part's place.
+-- Laws of a part's place and of an answer's machine value, for walks by hand.
 pub mod Rows
+pub mod Spelled

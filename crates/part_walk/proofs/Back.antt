@@ -35,10 +35,10 @@ start sign src out end xs inside h k = record {
 module _ {sign : ℕ} {src out : List ℕ} {end : ℕ} {xs : List Part} {i at : ℕ} {zs : List ℕ} (t : Turn sign src out end xs i at zs) (inside : Inside (length src) xs) where
   -- while one is left, the last of them
   module _ (l : 0 < i) where
-    abbrev here : Part
+    abbrev pub here : Part
     here = get_or xs (i - 1) (zero_part 0)
 
-    in_list : i - 1 < length xs
+    pub in_list : i - 1 < length xs
     in_list = omega (arith, t.under)
 
     left-by-one : Rest sign src out end xs (take (i - 1) xs ++ (here ∷ [])) at zs
@@ -54,12 +54,12 @@ module _ {sign : ℕ} {src out : List ℕ} {end : ℕ} {xs : List Part} {i at : 
     pub here-room : (leaves_source (length src) here ≡ false) × (part_length here ≤ at) × (at ≤ length zs)
     here-room = (here-stays, rest-room sign src xs (take (i - 1) xs) here left-by-one here-stays, t.rest.within)
 
-    -- the turn after t, once the part is written
+    -- what is left once the part is written, and so the turn after t
+    pub rest-next : {r : ℕ} {zs' : List ℕ} → (r ≡ at - part_length here) × (zs' ≡ ended zs at (part_text src here)) → Rest sign src out end xs (take (i - 1) xs) r zs'
+    rest-next e = rest-step sign src xs (take (i - 1) xs) here left-by-one here-stays e.0 e.1
+
     pub next : {r : ℕ} {zs' : List ℕ} → (r ≡ at - part_length here) × (zs' ≡ ended zs at (part_text src here)) → Turn sign src out end xs (i - 1) r zs'
-    next e = record {
-      under = omega (arith, t.under);
-      rest = rest-step sign src xs (take (i - 1) xs) here left-by-one here-stays e.0 e.1;
-    }
+    next e = record { under = omega (arith, t.under); rest = rest-next e }
 
   -- where none is left, the sign
   module _ (l : i ≤ 0) where

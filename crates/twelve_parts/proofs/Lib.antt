@@ -1,2 +1,2 @@
--- A law of the parts that are lent.
+-- Laws of twelve parts in memory, for walks by hand.
 mod Twelve
