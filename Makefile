@@ -1,7 +1,7 @@
 # `make` builds the archive and shows it at work; `make test` is the whole test. Nothing is fetched.
 #
 #   make all       prove what has changed, build the archive, run the example
-#   make test      all proofs from nothing, then the tests outside of them (what .ci/run calls)
+#   make test      the gate, rt ci, then the tests outside of the proofs (what .ci/run calls)
 #   make outside   only the tests outside of the proofs; make oracle, make ctest: one of them
 #   make fuzz      calls made by coverage, for FUZZ_SECONDS (60); needs clang with libFuzzer, and is in no test run
 #   make bench     times and instruction counts beside those of the peers, sizes, and the chart docs/speed.svg
