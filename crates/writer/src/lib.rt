@@ -23,6 +23,7 @@ pub fn write(kind: Kind, value: u64, format: u32, options: Options, out: &mut [u
 }
 
 // At the house default.
+#[tactic(auto, using(crate::proofs::Short::short_refused))]
 pub fn write_short(kind: Kind, value: u64, format: u32, out: &mut [u8]) -> Written
     ensures { Writes (text_of kind.bits (meaning 64 kind.signed value) format house) (answer kind.signed kind.bits value format house (length out.old)) out.old result out.new }
 {

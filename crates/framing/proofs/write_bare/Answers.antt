@@ -58,4 +58,5 @@ returns-then-out-count c =
 
 pub returns : goal.returns
 returns c =
-    rw (from (goal.at.returns c).Else-negative) (has_room (numeral c.args.format c.args.n) c.args.out.now c.count_digits-count.result c.count_digits-count.ensures c.write_digits-2.new.out c.if-out-count.false c.write_digits-2.ensures.1)
+    let room : c.count_digits-count.result ≤ length c.args.out.now = omega arith in
+    rw (from (goal.at.returns c).Else-negative) (has_room (numeral c.args.format c.args.n) c.args.out.now c.count_digits-count.result c.count_digits-count.ensures c.write_digits-2.new.out room c.write_digits-2.ensures.1)

@@ -1,10 +1,10 @@
 -- `whole_texts::find_whole` meets its contract. Assumes nothing.
 use mathlib.Core.Path.{refl}
+use borrow.Author.Rules.{rules}
 use Rattle.reading.proofs.Faithful.{letters-alphabet}
 use Rattle.digit_runs.proofs.Runs.{front-inside}
 use Rattle.whole_texts.proofs.Texts.{found-stop, found_none, found-reads, found-broken, found_number}
 use Rattle.whole_texts.proofs.find_whole.Goals as goal
-use Rattle.whole_texts.proofs.find_whole.Goals.{then-text-start-eq48+else-end-gt1, else-text-start-eq48}
 
 pub scan-run-requires : goal.scan-run-requires
 scan-run-requires c = (front-inside c.front-start.ensures c.requires.0, c.requires.1, c.requires.2, c.requires.3, c.requires.4, c.requires.5)
@@ -25,4 +25,4 @@ returns-then-end-gt1 c = (
 pub returns : goal.returns
 returns c =
     found_number _ _ (letters-alphabet _ _ c.requires.3 c.requires.1) refl _ _ _ _ c.front-start.ensures c.scan-run.ensures.stops c.if-end-text.false c.if-end-start.false _ _
-    (elim c.if-text-start-eq48.branch [ then-text-start-eq48+else-end-gt1 w ↦ λ z. w.if-end-gt1.false | else-text-start-eq48 w ↦ λ z. absurd (w.if-text-start-eq48.false z) ]) c.scan-run.ensures.held c.scan-run.ensures.beyond
+    (λ z. search rules) c.scan-run.ensures.held c.scan-run.ensures.beyond

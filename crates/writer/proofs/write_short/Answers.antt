@@ -12,7 +12,7 @@ use Rattle.scientific.specs.Layout.{exp_text}
 use Rattle.writing.specs.declared.Written.{Written}
 use Rattle.writing.specs.Promise.{house, settled, answer, Writes, Places}
 use Rattle.writing.specs.Text.{exponent_letter, text_of}
-use Rattle.writing.proofs.Cases.{known-range, options-refused, plain-writes, exponent-writes, exponent-kept, settles, unframes, house-unframed, house-known, house-unknown, type-refused, value-refused, judged}
+use Rattle.writing.proofs.Cases.{known-range, plain-writes, exponent-writes, exponent-kept, settles, unframes, house-unframed, house-known, type-refused, value-refused, judged}
 use Rattle.writer.proofs.write_short.Goals as goal
 use Rattle.writer.proofs.write_short.Goals.{Else-not-in_type}
 
@@ -53,16 +53,11 @@ pub returns-then-format-le4 : goal.returns-then-format-le4
 returns-then-format-le4 c =
     plainly (goal.at.returns-then-format-le4 c).Else-not-in_type c.if-format-le4.true (c.write_hex-need.ensures house None house-unframed) c.settle-then-format-le4.ensures
 
-pub returns-then-format-gt6 : goal.returns-then-format-gt6
-returns-then-format-gt6 c =
-    let k = judged-are (goal.at.returns-then-format-gt6 c).Else-not-in_type in
-    judged c.args.kind.signed c.args.kind.bits c.args.value c.args.format house c.args.out.now k.0 k.1 _ _
-    (rw (options-refused c.args.kind.bits (meaning 64 c.args.kind.signed c.args.value) c.args.format house (length c.args.out.now) (house-unknown c.args.format c.if-format-gt6.true)) (record { answers = refl; leaves = refl }))
-
 pub returns : goal.returns
 returns c =
     let k = judged-are (goal.at.returns c).Else-not-in_type in
+    let six : c.args.format ≤ 6 = omega arith in
     judged c.args.kind.signed c.args.kind.bits c.args.value c.args.format house c.args.out.now k.0 k.1 _ _
-    (exponent-writes c.args.kind.bits (meaning 64 c.args.kind.signed c.args.value) c.args.format house (length c.args.out.now) c.split_pattern-split.result c.split_pattern-split.ensures (house-known c.args.format c.if-format-gt6.false) c.args.out.now c.settle-2.result c.write_bare_in_full-need.new.out refl c.if-format-le4.false
+    (exponent-writes c.args.kind.bits (meaning 64 c.args.kind.signed c.args.value) c.args.format house (length c.args.out.now) c.split_pattern-split.result c.split_pattern-split.ensures (house-known c.args.format six) c.args.out.now c.settle-2.result c.write_bare_in_full-need.new.out refl c.if-format-le4.false
     (rw (unframes house c.split_pattern-split.result.negative c.args.format (exp_text (exponent_letter c.args.format) none c.split_pattern-split.result.magnitude) house-unframed)
     (exponent-kept none c.split_pattern-split.result.magnitude _ c.args.out.now _ _ c.write_bare_in_full-need.ensures.0 (settles c.write_bare_in_full-need.ensures.1 c.settle-2.ensures))))

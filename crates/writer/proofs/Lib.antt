@@ -1,0 +1,2 @@
+-- A law of the short form.
+pub mod Short
