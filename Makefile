@@ -96,4 +96,4 @@ list: archive
 	@cd oracle && $(cargo_run) -- part-list $(LIST_PARTS) $(LIST_SEED) --out ../crates/replay_lists
 
 clean:
-	rm -rf build target
+	rm -rf build target crates/*/out

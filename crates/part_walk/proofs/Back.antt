@@ -32,47 +32,45 @@ start sign src out end xs inside h k = record {
   rest = subst (λ (ps : List Part). Rest sign src out end xs ps end out) (sym (take_all (length xs) xs (omega arith))) (rest-start sign src out end xs inside h k);
 }
 
-module _ {sign : ℕ} {src out : List ℕ} {end : ℕ} {xs : List Part} {i at : ℕ} {zs : List ℕ} (t : Turn sign src out end xs i at zs) (inside : Inside (length src) xs) where
-  -- while one is left, the last of them
-  module _ (l : 0 < i) where
-    abbrev pub here : Part
-    here = get_or xs (i - 1) (zero_part 0)
+module _ {sign : ℕ} {src out : List ℕ} {end : ℕ} {xs : List Part} {i at : ℕ} {zs : List ℕ} (t : Turn sign src out end xs i at zs) where
+  -- the last of them
+  abbrev pub here : Part
+  here = get_or xs (i - 1) (zero_part 0)
 
-    pub in_list : i - 1 < length xs
-    in_list = omega (arith, t.under)
+  pub in_list : 0 < i → i - 1 < length xs
+  in_list l = omega (arith, t.under)
 
-    left-by-one : Rest sign src out end xs (take (i - 1) xs ++ (here ∷ [])) at zs
-    left-by-one = subst (λ (ps : List Part). Rest sign src out end xs ps at zs) (ap (λ (k : ℕ). take k xs) one_more ∙ take-suc xs (i - 1) (zero_part 0) in_list) t.rest
-      where
-        one_more : i ≡ suc (i - 1)
-        one_more = omega arith
+  left-by-one : 0 < i → Rest sign src out end xs (take (i - 1) xs ++ (here ∷ [])) at zs
+  left-by-one l = subst (λ (ps : List Part). Rest sign src out end xs ps at zs) (ap (λ (k : ℕ). take k xs) one_more ∙ take-suc xs (i - 1) (zero_part 0) (in_list l)) t.rest
+    where
+      one_more : i ≡ suc (i - 1)
+      one_more = omega arith
 
-    here-stays : leaves_source (length src) here ≡ false
-    here-stays = inside-at (length src) xs (i - 1) (zero_part 0) inside in_list
+  none_left : (0 < i → ⊥) → Rest sign src out end xs [] at zs
+  none_left l = subst (λ (k : ℕ). Rest sign src out end xs (take k xs) at zs) at_zero t.rest
+    where
+      at_zero : i ≡ 0
+      at_zero = omega arith
+
+  -- what the sign's writer asks, where no part is left
+  pub sign-room : (0 < i → ⊥) → (length (sign_text sign) ≤ at) × (at ≤ length zs)
+  sign-room l = (rest-sign-room sign src xs (none_left l), t.rest.within)
+
+  module _ (inside : Inside (length src) xs) where
+    here-stays : 0 < i → leaves_source (length src) here ≡ false
+    here-stays l = inside-at (length src) xs (i - 1) (zero_part 0) inside (in_list l)
 
     -- what a part's writer asks
-    pub here-room : (leaves_source (length src) here ≡ false) × (part_length here ≤ at) × (at ≤ length zs)
-    here-room = (here-stays, rest-room sign src xs (take (i - 1) xs) here left-by-one here-stays, t.rest.within)
+    pub here-room : 0 < i → (leaves_source (length src) here ≡ false) × (part_length here ≤ at) × (at ≤ length zs)
+    here-room l = (here-stays l, rest-room sign src xs (take (i - 1) xs) here (left-by-one l) (here-stays l), t.rest.within)
 
     -- what is left once the part is written, and so the turn after t
-    pub rest-next : {r : ℕ} {zs' : List ℕ} → (r ≡ at - part_length here) × (zs' ≡ ended zs at (part_text src here)) → Rest sign src out end xs (take (i - 1) xs) r zs'
-    rest-next e = rest-step sign src xs (take (i - 1) xs) here left-by-one here-stays e.0 e.1
+    pub rest-next : 0 < i → {r : ℕ} {zs' : List ℕ} → (r ≡ at - part_length here) × (zs' ≡ ended zs at (part_text src here)) → Rest sign src out end xs (take (i - 1) xs) r zs'
+    rest-next l e = rest-step sign src xs (take (i - 1) xs) here (left-by-one l) (here-stays l) e.0 e.1
 
-    pub next : {r : ℕ} {zs' : List ℕ} → (r ≡ at - part_length here) × (zs' ≡ ended zs at (part_text src here)) → Turn sign src out end xs (i - 1) r zs'
-    next e = record { under = omega (arith, t.under); rest = rest-next e }
+    pub next : 0 < i → {r : ℕ} {zs' : List ℕ} → (r ≡ at - part_length here) × (zs' ≡ ended zs at (part_text src here)) → Turn sign src out end xs (i - 1) r zs'
+    next l e = record { under = omega (arith, t.under); rest = rest-next l e }
 
-  -- where none is left, the sign
-  module _ (l : i ≤ 0) where
-    none_left : Rest sign src out end xs [] at zs
-    none_left = subst (λ (k : ℕ). Rest sign src out end xs (take k xs) at zs) at_zero t.rest
-      where
-        at_zero : i ≡ 0
-        at_zero = omega arith
-
-    -- what the sign's writer asks
-    pub sign-room : (length (sign_text sign) ≤ at) × (at ≤ length zs)
-    sign-room = (rest-sign-room sign src xs none_left, t.rest.within)
-
-    -- the whole text, once the sign is written
-    pub all-written : {r : ℕ} {zs' : List ℕ} → (r ≡ at - length (sign_text sign)) × (zs' ≡ ended zs at (sign_text sign)) → (r ≡ end - true_length sign xs) × (zs' ≡ ended out end (text_of sign src xs))
-    all-written e = rest-sign sign src xs none_left inside e.0 e.1
+    -- the whole text, once the sign is written behind no part
+    pub all-written : (0 < i → ⊥) → {r : ℕ} {zs' : List ℕ} → (r ≡ at - length (sign_text sign)) × (zs' ≡ ended zs at (sign_text sign)) → (r ≡ end - true_length sign xs) × (zs' ≡ ended out end (text_of sign src xs))
+    all-written l e = rest-sign sign src xs (none_left l) inside e.0 e.1

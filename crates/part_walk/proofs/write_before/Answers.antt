@@ -13,7 +13,7 @@ pub loop-i-preserved : goal.loop-i-preserved
 loop-i-preserved c = next c.loop-i.invariant c.requires.0 (omega arith) c.write_before-at.ensures
 
 pub write_sign-requires : goal.write_sign-requires
-write_sign-requires c = sign-room c.loop-i.invariant c.requires.0 (omega arith)
+write_sign-requires c = sign-room c.loop-i.invariant (λ z. omega arith)
 
 pub returns : goal.returns
-returns c = all-written c.loop-i.invariant c.requires.0 (omega arith) c.write_sign.ensures
+returns c = all-written c.loop-i.invariant c.requires.0 (λ z. omega arith) c.write_sign.ensures
