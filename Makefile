@@ -49,9 +49,9 @@ lib := target/staticlib
 check:
 	rt all check
 archive:
-	cd crates/larguviet && rt lib
+	cd crates/larguviet_c && rt lib
 	@mkdir -p $(lib)
-	cp crates/larguviet/out/liblarguviet.a $(lib)/liblarguviet.a
+	cp crates/larguviet_c/out/liblarguviet_c.a $(lib)/liblarguviet.a
 endif
 
 all: check example

@@ -1,4 +1,4 @@
-// The C edge: what the firmware in C calls, and the Rust oracle. A slice is a pointer and a length; an answer is two words.
+// The C edge: the entries that larguviet_c exports to the firmware in C and to the Rust oracle. A slice is a pointer and a length; an answer is two words.
 #![tactic(auto)]
 
 ghost use Rattle.std.specs.Prelude.{length};
@@ -14,8 +14,7 @@ use kinds::Kind;
 use writing::Options;
 
 // The text of a value by type, format and options, at the start of out.
-#[unsafe(no_mangle)]
-pub extern "C" fn lgv_write(
+pub fn lgv_write(
     bits: u32,
     is_signed: u32,
     value: u64,
@@ -54,14 +53,7 @@ pub extern "C" fn lgv_write(
 }
 
 // The same at the house default.
-#[unsafe(no_mangle)]
-pub extern "C" fn lgv_write_short(
-    bits: u32,
-    is_signed: u32,
-    value: u64,
-    format: u32,
-    out: &mut [u8],
-) -> Answer
+pub fn lgv_write_short(bits: u32, is_signed: u32, value: u64, format: u32, out: &mut [u8]) -> Answer
     ensures { Answers (text_of bits (meaning 64 (set is_signed) value) format house) (answer (set is_signed) bits value format house (length out.old)) out.old result.number result.value out.new }
 {
     let kind = Kind {
@@ -77,8 +69,7 @@ pub extern "C" fn lgv_write_short(
 
 // A plain text back to its value. What most calls hand over, a short decimal text, is read at once; its answer stays in registers,
 // since those of read_any are copied out of memory only where it is called.
-#[unsafe(no_mangle)]
-pub extern "C" fn lgv_read(bits: u32, is_signed: u32, format: u32, text: &[u8]) -> Answer
+pub fn lgv_read(bits: u32, is_signed: u32, format: u32, text: &[u8]) -> Answer
     ensures { Reads (set is_signed) bits format text.now result.number result.value }
 {
     let kind = Kind {
@@ -107,16 +98,14 @@ pub extern "C" fn lgv_read(bits: u32, is_signed: u32, format: u32, text: &[u8]) 
 }
 
 // The decimal of a u64 at the end of out: where it starts, or out's length where it has no room and nothing is changed.
-#[unsafe(no_mangle)]
-pub extern "C" fn lgv_decimal_end_u64(value: u64, out: &mut [u8]) -> usize
+pub fn lgv_decimal_end_u64(value: u64, out: &mut [u8]) -> usize
     ensures { EndPromise (decimal value) out.old result out.new }
 {
     decimal::end_at_u64(value, out)
 }
 
 // As lgv_decimal_end_u64, for an i64.
-#[unsafe(no_mangle)]
-pub extern "C" fn lgv_decimal_end_i64(value: i64, out: &mut [u8]) -> usize
+pub fn lgv_decimal_end_i64(value: i64, out: &mut [u8]) -> usize
     ensures { EndPromise (signed value) out.old result out.new }
 {
     decimal::end_at_i64(value, out)
