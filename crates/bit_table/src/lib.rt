@@ -38,6 +38,7 @@ fn put2(table: &[u8; 16], shift: u32, n: u64, buf: &mut [u8], at: usize)
 }
 
 // The text of n in base 2 to the shift by the table, just before the index end. The answer is where it starts.
+#[tactic(auto, using(crate::proofs::LastPair::last_pair))]
 fn fmt_inner(table: &[u8; 16], shift: u32, n: u64, buf: &mut [u8], end: usize) -> usize
     requires { (0 < shift) × (shift ≤ 4) × (length (text (table_byte table.now) (2 ^ shift) n) ≤ end) × (end ≤ length buf.old) }
     ensures { (result ≡ end - length (text (table_byte table.now) (2 ^ shift) n)) × (buf.new ≡ ended buf.old end (text (table_byte table.now) (2 ^ shift) n)) }

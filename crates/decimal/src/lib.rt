@@ -15,6 +15,7 @@ pub fn write_before(n: u64, buf: &mut [u8], end: usize) -> usize
 }
 
 // Whether the decimal text of n is at most room bytes long: one comparison with a power of ten, none where 20 bytes are there.
+#[tactic(auto, using(crate::proofs::Room::room_for_any))]
 fn has_room(n: u64, room: usize) -> bool
     ensures { result ≡ leb (length (decimal n)) room }
 {

@@ -79,6 +79,7 @@ fn fixed(n: u64, exp: usize, fmt_prec: usize) -> Scaled
 }
 
 // Without precision: any and all trailing zeros are dropped, four at a time, then two, then one.
+#[tactic(auto, using(crate::proofs::LastZeros::last_zeros))]
 fn short(n: u64, exp: usize) -> Scaled
     requires { exp ≡ exponent_of n }
     ensures { Scales none n result }

@@ -1,18 +1,17 @@
 -- `bit_table::fmt_inner` meets its contract. The invariant: what is left of the text, written so that it ends at the offset, completes the buffer (`Left`).
 -- The measure is the number that is left. Assumes nothing.
 use mathlib.Core.Path.{◌≡◌, refl}
-use mathlib.Core.List.{List, [], ◌∷◌, ◌++◌}
-use Prim.Native.Nat.{ℕ, ◌+◌, ◌-◌, ◌/◌, ◌%◌, ◌^◌}
+use mathlib.Core.List.{List, [], ◌++◌}
+use Prim.Native.Nat.{ℕ, ◌+◌, ◌-◌, ◌/◌, ◌^◌}
 use native.Mathlib.Omega.{arith}
 use lib.ListN.{length, length-set}
-use lib.Seq.{length-sets}
 use Rattle.buffer.proofs.Left.{left-start, left-room, left-store, left-last}
 use Rattle.digits.specs.Text.{text, last_text}
 use Rattle.digits.proofs.Text.{length-last_text}
 use Rattle.bit_table.specs.Bits.{table_byte}
-use Rattle.bit_table.proofs.Shift.{pair-more, pair-last, one_last, shifted-less}
+use Rattle.bit_table.proofs.Shift.{pair-more, one_last, shifted-less}
 use Rattle.bit_table.proofs.fmt_inner.Goals as goal
-use Rattle.bit_table.proofs.fmt_inner.Goals.{Else-remain-shift-ne0, In-loop-remain, Then-remain-shift-ne0}
+use Rattle.bit_table.proofs.fmt_inner.Goals.{In-loop-remain}
 
 pub overflow_add-pair : goal.overflow_add-pair
 overflow_add-pair c = omega arith
@@ -41,15 +40,6 @@ more : (c : In-loop-remain) →
     let t = c.args.table.now in let s = c.args.shift in let n = c.loop-remain.remain in Digits t s n ≡ Front t s n ++ Pair t s n
 more c =
     pair-more (table_byte c.args.table.now) c.args.shift c.requires.0 c.loop-remain.remain c.loop-remain-test.true
-
-two : (c : Then-remain-shift-ne0) → let t = c.args.table.now in let s = c.args.shift in let n = c.loop-remain.remain in Digits t s n ≡ Pair t s n
-two c =
-    pair-last (table_byte c.args.table.now) c.args.shift c.requires.0 c.loop-remain.remain c.loop-remain-test.false c.if-remain-shift-ne0.true
-
-one : (c : Else-remain-shift-ne0) →
-    let t = c.args.table.now in let s = c.args.shift in let n = c.loop-remain.remain in Digits t s n ≡ table_byte t (n % 2 ^ s) ∷ []
-one c =
-    one_last (table_byte c.args.table.now) c.args.shift c.requires.0 c.loop-remain.remain c.if-remain-shift-ne0.false
 
 length-pair : (table : List ℕ) (shift n : ℕ) → length (Pair table shift n) ≡ 2
 length-pair table shift n = length-last_text (table_byte table) (2 ^ shift) 2 n
@@ -81,35 +71,24 @@ loop-remain-preserved c =
 pub overflow_shr-remain-2 : goal.overflow_shr-remain-2
 overflow_shr-remain-2 c = omega arith
 
-pub overflow_sub-offset-then-remain-shift-ne0 : goal.overflow_sub-offset-then-remain-shift-ne0
-overflow_sub-offset-then-remain-shift-ne0 c = omega (arith, left-room c.loop-remain.invariant [] (Pair c.args.table.now c.args.shift c.loop-remain.remain) (two (goal.at.overflow_sub-offset-then-remain-shift-ne0 c).Then-remain-shift-ne0), length-pair c.args.table.now c.args.shift c.loop-remain.remain)
-
-pub put2-requires-then-remain-shift-ne0 : goal.put2-requires-then-remain-shift-ne0
-put2-requires-then-remain-shift-ne0 c =
-    let h = overflow_sub-offset-then-remain-shift-ne0 (goal.at.put2-requires-then-remain-shift-ne0 c).Then-remain-shift-ne0 in
-    (c.requires.1, omega (arith, c.loop-remain.invariant.within))
-
-pub shape_of-buf-then-remain-shift-ne0 : goal.shape_of-buf-then-remain-shift-ne0
-shape_of-buf-then-remain-shift-ne0 c = rw (c.put2-then-remain-shift-ne0.ensures, length-sets) c.loop-remain.invariant.same
-
-pub returns-then-remain-shift-ne0 : goal.returns-then-remain-shift-ne0
-returns-then-remain-shift-ne0 c =
-    let h = overflow_sub-offset-then-remain-shift-ne0 (goal.at.returns-then-remain-shift-ne0 c).Then-remain-shift-ne0 in
-    rw c.put2-then-remain-shift-ne0.ensures (left-last c.loop-remain.invariant _ (c.loop-remain.offset - 2) (two (goal.at.returns-then-remain-shift-ne0 c).Then-remain-shift-ne0) (omega (arith, length-pair c.args.table.now c.args.shift c.loop-remain.remain)))
-
 pub overflow_sub-offset-2 : goal.overflow_sub-offset-2
-overflow_sub-offset-2 c = left-room c.loop-remain.invariant [] _ (one (goal.at.overflow_sub-offset-2 c).Else-remain-shift-ne0)
+overflow_sub-offset-2 c =
+    let d = one_last (table_byte c.args.table.now) c.args.shift c.requires.0 c.loop-remain.remain (omega arith) in
+    left-room c.loop-remain.invariant [] _ d
 
 pub last_byte-requires : goal.last_byte-requires
 last_byte-requires c = c.requires.1
 
 pub bounds-buf-offset : goal.bounds-buf-offset
-bounds-buf-offset c = omega (arith, overflow_sub-offset-2 (goal.at.bounds-buf-offset c).Else-remain-shift-ne0, c.loop-remain.invariant.within)
+bounds-buf-offset c =
+    let d = one_last (table_byte c.args.table.now) c.args.shift c.requires.0 c.loop-remain.remain (omega arith) in
+    omega (arith, left-room c.loop-remain.invariant [] _ d, c.loop-remain.invariant.within)
 
 pub shape_of-buf : goal.shape_of-buf
 shape_of-buf c = simp length-set c.loop-remain.invariant.same
 
 pub returns : goal.returns
 returns c =
-    let h = overflow_sub-offset-2 (goal.at.returns c).Else-remain-shift-ne0 in
-    rw c.last_byte.ensures (left-last c.loop-remain.invariant _ (c.loop-remain.offset - 1) (one (goal.at.returns c).Else-remain-shift-ne0) (omega arith))
+    let d = one_last (table_byte c.args.table.now) c.args.shift c.requires.0 c.loop-remain.remain (omega arith) in
+    let h = left-room c.loop-remain.invariant [] _ d in
+    rw c.last_byte.ensures (left-last c.loop-remain.invariant _ (c.loop-remain.offset - 1) d (omega arith))

@@ -2,15 +2,12 @@
 use mathlib.Core.Path.{sym}
 use native.Mathlib.Nat.{pos_of_ne-zero}
 use native.Mathlib.Omega.{arith}
-use borrow.Author.Tests.{le-leb, lt-leb}
+use borrow.Author.Tests.{lt-leb}
 use lib.Dec.{lit<}
 use lib.ListN.{length}
 use Rattle.digits.specs.Text.{ascii, decimal}
-use Rattle.digits.proofs.Text.{text-some, text-most, text-fit}
+use Rattle.digits.proofs.Text.{text-some, text-fit}
 use Rattle.decimal.proofs.has_room.Goals as goal
-
-pub returns-then-room-ge20 : goal.returns-then-room-ge20
-returns-then-room-ge20 c = sym (le-leb (length (decimal c.args.n)) c.args.room (omega (arith, text-most ascii 10 (lit< tt) 20 c.args.n (lit< tt) (omega (arith, c.ranges.n.fits)))))
 
 pub returns-then-room-eq0 : goal.returns-then-room-eq0
 returns-then-room-eq0 c = sym (lt-leb (length (decimal c.args.n)) c.args.room (omega (arith, text-some ascii 10 (lit< tt) c.args.n)))

@@ -10,4 +10,4 @@ encode_exp-exp_len-requires c =
 
 pub returns : goal.returns
 returns c =
-    rw (c.copy.ensures, c.zero.ensures, c.copy-2.ensures) (texts _ _ _ _ c.scale-scaled.ensures _ _ _ _ _ c.encode_coef-coef_len.ensures.0 c.encode_exp-exp_len.ensures.0 c.encode_coef-coef_len.ensures.1 c.encode_exp-exp_len.ensures.1 (omega arith) c.if-scaled-gt99.false)
+    rw (c.copy.ensures, c.zero.ensures, c.copy-2.ensures) (texts _ _ _ _ c.scale-scaled.ensures _ _ _ _ _ c.encode_coef-coef_len.ensures.0 c.encode_exp-exp_len.ensures.0 c.encode_coef-coef_len.ensures.1 c.encode_exp-exp_len.ensures.1 (omega arith) (omega arith))
