@@ -20,7 +20,7 @@ fn digit_table() -> [u8; 16]
     DIGITS
 }
 
-// The byte of the last digit of n, which stands for shift bits.
+// The byte of the last digit of n, which stands for shift bits. The shift is a number: a type for it would be no plainer, since each caller writes 1, 3 or 4.
 fn last_byte(table: &[u8; 16], shift: u32, n: u64) -> u8
     requires { shift ≤ 4 }
     ensures { result ≡ table_byte table.now (n % 2 ^ shift) }
@@ -38,6 +38,8 @@ fn put2(table: &[u8; 16], shift: u32, n: u64, buf: &mut [u8], at: usize)
 }
 
 // The text of n in base 2 to the shift by the table, just before the index end. The answer is where it starts.
+// The loop runs over what is left of the number, of which nothing is a list: a `for` would need an iterator of quotients of its own.
+// The end travels beside the buffer, as in all crates of writers: the crate buffer says why.
 #[tactic(auto, using(crate::proofs::LastPair::last_pair))]
 fn fmt_inner(table: &[u8; 16], shift: u32, n: u64, buf: &mut [u8], end: usize) -> usize
     requires { (0 < shift) × (shift ≤ 4) × (length (text (table_byte table.now) (2 ^ shift) n) ≤ end) × (end ≤ length buf.old) }
@@ -69,7 +71,8 @@ pub fn write_digits(shift: u32, n: u64, buf: &mut [u8], end: usize) -> usize
     fmt_inner(&digit_table(), shift, n, buf, end)
 }
 
-// How many digits n has in base 2 to the shift: the bits that it needs over the shift, rounded up.
+// How many digits n has in base 2 to the shift: the bits that it needs over the shift, rounded up. The library's div_ceil divides, and then looks at
+// the remainder: that is a product more where the shift is 3.
 pub fn digit_count(shift: u32, n: u64) -> usize
     requires { (0 < shift) × (shift ≤ 4) }
     ensures { result ≡ length (digits (2 ^ shift) n) }

@@ -1,11 +1,12 @@
 -- Laws of a text that stands just before an end: written in pieces, in front of another, and at the start.
 -- Assumes nothing.
-use mathlib.Core.Path.{◌≡◌, refl, sym, ◌∙◌}
+use mathlib.Core.Path.{◌≡◌, refl, sym, ap, ◌∙◌}
 use mathlib.Core.List.{List, [], ◌∷◌, ◌++◌, append_assoc}
 use Prim.Native.Nat.{ℕ, suc, ◌+◌, ◌-◌, ◌≤◌, zero-le}
 use native.Mathlib.Nat.{sub-zero, sub_self}
 use native.Mathlib.Omega.{arith}
 use lib.ListN.{length, get_or, take, drop, set, length-append, length-take, length-drop, take-append-drop}
+use borrow.Rule.Slice.PartMut.{put_mid}
 use lib.Seq.{take-suc, set_at, sets, sets-eq, take-append-le, length-take-le, drop-append-add, drop-drop, take-take, drop_at, take_at}
 use Rattle.buffer.specs.AtEnd.{ended, begun}
 
@@ -25,6 +26,18 @@ ended-more l o e t v eo h k =
     take-append-le (o - length t) (take o l) (v ++ drop e l) (omega arith) ∙ take-take (o - length t) o l (omega arith) in
     let q : e - length (t ++ v) ≡ o - length t = omega (arith, length-append t v) in
     rw (s, d, f, q, append_assoc)
+
+-- the n bytes before an end, lent as a slice
+pub lent_length : (l : List ℕ) (e n : ℕ) → n ≤ e → e ≤ length l → length (take (e - (e - n)) (drop (e - n) l)) ≡ n
+lent_length l e n h k = length-take-le (e - (e - n)) (drop (e - n) l) (omega (arith, length-drop (e - n) l)) ∙ omega arith
+
+-- they have become t
+pub ended_lent : (l : List ℕ) (e n : ℕ) {t now : List ℕ} → now ≡ t → length t ≡ n → n ≤ e → e ≤ length l → put_mid (e - n) (e - (e - n)) l now ≡ ended l e t
+unfolding ended
+ended_lent l e n {t} f g h k =
+    let q : e - n ≡ e - length t = omega arith in
+    let d : drop (e - (e - n)) (drop (e - n) l) ≡ drop e l = drop-drop (e - (e - n)) (e - n) l ∙ ap (λ (i : ℕ). drop i l) (omega arith) in
+    rw (f, d, q)
 
 pub length-ended : (l : List ℕ) (e : ℕ) (t : List ℕ) → length t ≤ e → e ≤ length l → length (ended l e t) ≡ length l
 unfolding ended

@@ -1,4 +1,3 @@
 -- Laws that belong to no one function.
 pub mod AtEnd
 pub mod Left
-pub mod Onward

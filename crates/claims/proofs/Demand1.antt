@@ -1,5 +1,5 @@
 -- Demand 1: by which check refuses, if any does, and by the room. Assumes nothing.
-use Rattle.std.proofs.Common.{◌≡◌, ℕ, suc, ◌+◌, ◌-◌, ◌<◌, ◌≤◌, Bool, true, false, cond, ◌&&◌, leb, ◌⊎◌, ◌↔◌, List, [], ◌∷◌, ◌++◌, length, ℤ, pos, negsuc, sym, refl, ap, ◌∙◌, subst, inl, inr, add-zero, zero-add, arith, lit<, le-leb, leb-false, leb-true}
+use Rattle.std.proofs.Common.{◌≡◌, ℕ, zero, suc, Ok, Err, ◌+◌, ◌-◌, ◌<◌, ◌≤◌, Bool, true, false, cond, ◌&&◌, leb, ◌⊎◌, ◌↔◌, List, [], ◌∷◌, ◌++◌, length, ℤ, pos, negsuc, sym, refl, ap, ◌∙◌, subst, inl, inr, add-zero, zero-add, arith, lit<, le-leb, leb-false, leb-true}
 use mathlib.Core.Bool.{false≢true}
 use native.Mathlib.Decide.{dec_le}
 use borrow.Author.Tests.{lt-leb}
@@ -9,19 +9,17 @@ use Rattle.digits.specs.Text.{ascii, decimal, signed}
 use Rattle.digits.proofs.Text.{text-some}
 use Rattle.kinds.specs.Kinds.{known, is_in_type, meaning}
 use Rattle.part_answers.specs.Answers as parting
-use Rattle.part_answers.specs.Answers.{first_out, checked, measured, measured_number, measured_value, wrote, wrote_number, wrote_value}
-use Rattle.part_answers.specs.declared.Measured.TheVariants as measure
-use Rattle.part_answers.specs.declared.Wrote.{Wrote}
-use Rattle.part_answers.specs.declared.Wrote.TheVariants as write
+use Rattle.part_answers.specs.Answers.{Answer, first_out, checked, measured, wrote, number_of, value_of}
+use Rattle.part_answers.specs.declared.Refusal.TheVariants as part_refusal
 use Rattle.parts.specs.Parts as parts
-use Rattle.parts.specs.Parts.{all_known, leaves_source, Inside, true_length, held}
+use Rattle.parts.specs.Parts.{known_part, all_known, leaves_source, Inside, true_length, held}
 use Rattle.parts.specs.declared.Part.{Part}
+use Rattle.parts.specs.declared.Sign.{Sign}
 use Rattle.parts.proofs.Text.{length-text}
 use Rattle.writing.specs.Text.{text_of}
-use Rattle.writing.specs.Promise.{known_options, exponent_kept, fitted, number, value, after, answer_of, answer, Writes}
+use Rattle.writing.specs.Promise.{Written, known_options, exponent_kept, fitted, number, value, after, answer_of, answer, Writes}
 use Rattle.writing.specs.declared.Options.{Options}
-use Rattle.writing.specs.declared.Written.{Written}
-use Rattle.writing.specs.declared.Written.TheVariants.{TypeRefused, ValueRefused, OptionsRefused, ExponentRefused}
+use Rattle.writing.specs.declared.Refusal.TheVariants as refusal
 use Rattle.claims.specs.Demand1.{Demand1, Allowed, Judged, InOrder, OfWriting, Sound, FirstOut, PartsInOrder, OfParts, OfEnds}
 
 -- ---- by the room, where no check refuses, and where one does
@@ -114,7 +112,7 @@ neither : {A B : Type 0} → (A → ⊥) → (B → ⊥) → A ↔ B
 neither f g = ((λ a. absurd (f a)), (λ b. absurd (g b)))
 
 abbrev first : Bool → Bool → Bool → Bool → Written → Written
-first a b c d w = cond a (cond b (cond c (cond d w ExponentRefused) OptionsRefused) ValueRefused) TypeRefused
+first a b c d w = cond a (cond b (cond c (cond d w (Err refusal.Exponent)) (Err refusal.Options)) (Err refusal.Value)) (Err refusal.Type)
 
 passing : (n v : ℕ) → ((n ≡ 0 → ⊥) → n ≡ 8) → InOrder true true true true n v
 passing n v few = record {
@@ -184,21 +182,21 @@ of-writing = record {
 -- ---- parts
 
 -- the first part that leaves its source is what is found, and none where all are inside
-found : {A : Type 0} (out : ℕ → A) (fine : A) (n i : ℕ) (front : List Part) (p : Part) (behind : List Part) → Inside n front → leaves_source n p ≡ true
-    → first_out out fine n i (front ++ (p ∷ behind)) ≡ out (i + length front)
+found : (fine : Answer) (n i : ℕ) (front : List Part) (p : Part) (behind : List Part) → Inside n front → leaves_source n p ≡ true
+    → first_out fine n i (front ++ (p ∷ behind)) ≡ Err (part_refusal.Part (i + length front))
 unfolding first_out Inside
-found out fine n i [] p behind I e = rw e (ap out (sym (add-zero i)))
-found out fine n i (q ∷ qs) p behind I e =
+found fine n i [] p behind I e = rw e (ap (λ (j : ℕ). Err (part_refusal.Part j)) (sym (add-zero i)))
+found fine n i (q ∷ qs) p behind I e =
     let j : suc i + length qs ≡ i + length (q ∷ qs) = omega arith in
-    rw I.0 (found out fine n (suc i) qs p behind I.1 e ∙ ap out j)
+    rw I.0 (found fine n (suc i) qs p behind I.1 e ∙ ap (λ (k : ℕ). Err (part_refusal.Part k)) j)
 
-out-or-not : {A : Type 0} (out : ℕ → A) (fine : A) (n i : ℕ) (ps : List Part) → (Inside n ps × (first_out out fine n i ps ≡ fine)) ⊎ ((k : ℕ) × FirstOut n ps k)
+out-or-not : (fine : Answer) (n i : ℕ) (ps : List Part) → (Inside n ps × (first_out fine n i ps ≡ fine)) ⊎ ((k : ℕ) × FirstOut n ps k)
 unfolding first_out Inside
-out-or-not out fine n i [] = inl (tt, refl)
-out-or-not {A} out fine n i (p ∷ ps) = go (leaves_source n p) refl (out-or-not out fine n (suc i) ps)
+out-or-not fine n i [] = inl (tt, refl)
+out-or-not fine n i (p ∷ ps) = go (leaves_source n p) refl (out-or-not fine n (suc i) ps)
   where
-    go : (b : Bool) → leaves_source n p ≡ b → (Inside n ps × (first_out out fine n (suc i) ps ≡ fine)) ⊎ ((k : ℕ) × FirstOut n ps k)
-        → (Inside n (p ∷ ps) × (first_out out fine n i (p ∷ ps) ≡ fine)) ⊎ ((k : ℕ) × FirstOut n (p ∷ ps) k)
+    go : (b : Bool) → leaves_source n p ≡ b → (Inside n ps × (first_out fine n (suc i) ps ≡ fine)) ⊎ ((k : ℕ) × FirstOut n ps k)
+        → (Inside n (p ∷ ps) × (first_out fine n i (p ∷ ps) ≡ fine)) ⊎ ((k : ℕ) × FirstOut n (p ∷ ps) k)
     go true e r = inr (0, record { front = []; part = p; behind = ps; split = refl; index = refl; inside = tt; leaves = e })
     go false e (inl r) = inl ((e, r.0), rw e r.1)
     go false e (inr r) =
@@ -206,8 +204,8 @@ out-or-not {A} out fine n i (p ∷ ps) = go (leaves_source n p) refl (out-or-not
         inr (suc r.0, record { front = p ∷ F.front; part = F.part; behind = F.behind; split = ap (λ (l : List Part). p ∷ l) F.split; index = ap suc F.index; inside = (e, F.inside); leaves = F.leaves })
 
 module _ {n : ℕ} {ps : List Part} {k : ℕ} (F : FirstOut n ps k) where
-  at_first : {A : Type 0} (out : ℕ → A) (fine : A) → first_out out fine n 0 ps ≡ out k
-  at_first out fine = rw (F.split, F.index) (found out fine n 0 F.front F.part F.behind F.inside F.leaves ∙ ap out (zero-add (length F.front)))
+  at_first : (fine : Answer) → first_out fine n 0 ps ≡ Err (part_refusal.Part k)
+  at_first fine = rw (F.split, F.index) (found fine n 0 F.front F.part F.behind F.inside F.leaves ∙ ap (λ (j : ℕ). Err (part_refusal.Part j)) (zero-add (length F.front)))
 
   not-inside : Inside n ps → ⊥
   unfolding Inside
@@ -218,47 +216,44 @@ module _ {n : ℕ} {ps : List Part} {k : ℕ} (F : FirstOut n ps k) where
       go (q ∷ qs) J = go qs J.1
 
 -- the numbers of an answer that is made by these checks
-module _ {A : Type 0} (num val : A → ℕ) (unknown fine : A) (out : ℕ → A) (six : num unknown ≡ 6) (none : val unknown ≡ 0) (nine : (k : ℕ) → (num (out k) ≡ 9) × (val (out k) ≡ k))
-    (other : (num fine ≡ 6 → ⊥) × (num fine ≡ 9 → ⊥)) (sign : ℕ) (ps : List Part) (n : ℕ) where
-  parts-order : PartsInOrder sign ps n (num (checked unknown out fine n sign ps)) (val (checked unknown out fine n sign ps))
+module _ (fine : Answer) (other : (number_of fine ≡ 6 → ⊥) × (number_of fine ≡ 9 → ⊥)) (sign : Sign) (ps : List Part) (n : ℕ) where
+  parts-order : PartsInOrder sign ps n (number_of (checked fine n sign ps)) (value_of (checked fine n sign ps))
   unfolding checked
   parts-order = go (parts.known sign && all_known ps) refl
     where
-      go : (b : Bool) → (parts.known sign && all_known ps) ≡ b → PartsInOrder sign ps n (num (checked unknown out fine n sign ps)) (val (checked unknown out fine n sign ps))
+      go : (b : Bool) → (parts.known sign && all_known ps) ≡ b → PartsInOrder sign ps n (number_of (checked fine n sign ps)) (value_of (checked fine n sign ps))
       go false e = rw e (record {
-        six = both six e;
-        nine = λ k. neither (λ h. omega (arith, six, h.0)) (λ h. false≢true (sym e ∙ h.0));
-        nothing = λ _. none;
+        six = both refl e;
+        nine = λ k. neither (λ h. omega (arith, h.0)) (λ h. false≢true (sym e ∙ h.0));
+        nothing = λ _. refl;
       })
-      go true e = by (out-or-not out fine n 0 ps)
+      go true e = by (out-or-not fine n 0 ps)
         where
-          by : (Inside n ps × (first_out out fine n 0 ps ≡ fine)) ⊎ ((k : ℕ) × FirstOut n ps k) → PartsInOrder sign ps n (num (checked unknown out fine n sign ps)) (val (checked unknown out fine n sign ps))
+          by : (Inside n ps × (first_out fine n 0 ps ≡ fine)) ⊎ ((k : ℕ) × FirstOut n ps k) → PartsInOrder sign ps n (number_of (checked fine n sign ps)) (value_of (checked fine n sign ps))
           by (inl w) = rw (e, w.1) (record {
             six = neither other.0 (λ h. false≢true (sym h ∙ e));
             nine = λ k. neither (λ h. other.1 h.0) (λ h. not-inside h.1 w.0);
             nothing = λ h. absurd (other.0 h);
           })
-          by (inr w) =
-              let j = w.0 in
-              rw (e, at_first w.1 out fine) (record {
-                six = neither (λ h. omega (arith, (nine j).0)) (λ h. false≢true (sym h ∙ e));
-                nine = λ k. ((λ h. (e, subst (FirstOut n ps) (sym (nine j).1 ∙ h.1) w.1)), (λ h. let q : out j ≡ out k = sym (at_first w.1 out fine) ∙ at_first h.1 out fine in ((nine j).0, ap val q ∙ (nine k).1)));
-                nothing = λ h. absurd (omega (arith, (nine j).0));
-              })
+          by (inr w) = rw (e, at_first w.1 fine) (record {
+            six = neither (λ h. omega arith) (λ h. false≢true (sym h ∙ e));
+            nine = λ k. ((λ h. (e, subst (FirstOut n ps) h.1 w.1)), (λ h. (refl, ap value_of (sym (at_first w.1 fine) ∙ at_first h.1 fine))));
+            nothing = λ h. absurd (omega arith);
+          })
 
-module _ (sign : ℕ) (ps : List Part) (src out : List ℕ) where
+module _ (sign : Sign) (ps : List Part) (src out : List ℕ) where
   abbrev text : List ℕ
   text = parts.text_of sign src ps
 
-  abbrev of-answer : Wrote → Type 0
-  of-answer r = Demand1 (Sound sign ps src) held text out (wrote_number r) (wrote_value r) (parting.after r text out)
+  abbrev of-answer : Answer → Type 0
+  of-answer r = Demand1 (Sound sign ps src) held text out (number_of r) (value_of r) (parting.after r text out)
 
   -- the answer where every check passes
-  abbrev fine : Wrote
-  fine = cond (leb (true_length sign ps) (length out)) (write.Done (true_length sign ps)) (write.NoRoom (held (true_length sign ps)))
+  abbrev fine : Answer
+  fine = cond (leb (true_length sign ps) (length out)) (Ok (true_length sign ps)) (Err (part_refusal.NoRoom (held (true_length sign ps))))
 
-  parts-fit : (E : Sound sign ps src) → (b : Bool) → leb (true_length sign ps) (length out) ≡ b → (r : Wrote)
-      → r ≡ cond b (write.Done (true_length sign ps)) (write.NoRoom (held (true_length sign ps))) → of-answer r
+  parts-fit : (E : Sound sign ps src) → (b : Bool) → leb (true_length sign ps) (length out) ≡ b → (r : Answer)
+      → r ≡ cond b (Ok (true_length sign ps)) (Err (part_refusal.NoRoom (held (true_length sign ps)))) → of-answer r
   parts-fit E true e r i = let n = length-text sign src ps E.inside in rw (i, ← n) (in-room E (omega (arith, leb-true (true_length sign ps) (length out) e)))
   parts-fit E false e r i = let n = length-text sign src ps E.inside in rw (i, ← n) (no_room E (omega (arith, leb-false (true_length sign ps) (length out) e)))
 
@@ -268,32 +263,38 @@ module _ (sign : ℕ) (ps : List Part) (src out : List ℕ) where
     where
       go : (b : Bool) → (parts.known sign && all_known ps) ≡ b → of-answer (wrote (length src) (length out) sign ps)
       go false e = rw e (earlier 6 0 (λ E. false≢true (sym e ∙ E.codes)) (λ k. omega arith) (λ k. omega arith))
-      go true e = by (out-or-not write.PartRefused fine (length src) 0 ps)
+      go true e = by (out-or-not fine (length src) 0 ps)
         where
-          by : (Inside (length src) ps × (first_out write.PartRefused fine (length src) 0 ps ≡ fine)) ⊎ ((k : ℕ) × FirstOut (length src) ps k)
+          by : (Inside (length src) ps × (first_out fine (length src) 0 ps ≡ fine)) ⊎ ((k : ℕ) × FirstOut (length src) ps k)
               → of-answer (wrote (length src) (length out) sign ps)
           by (inl w) = rw e (parts-fit (record { codes = e; inside = w.0 }) (leb (true_length sign ps) (length out)) refl _ w.1)
-          by (inr w) = rw (e, at_first w.1 write.PartRefused fine) (earlier 9 w.0 (λ E. not-inside w.1 E.inside) (λ k. omega arith) (λ k. omega arith))
+          by (inr w) = rw (e, at_first w.1 fine) (earlier 9 w.0 (λ E. not-inside w.1 E.inside) (λ k. omega arith) (λ k. omega arith))
 
 pub of_parts : OfParts
 unfolding wrote measured
 of_parts = record {
+  sign-codes = sign-codes;
+  kind-codes = kind-codes;
   writing = λ sign ps src out r out' W. rw (W.leaves, W.answers) (parts-checked sign ps src out);
-  writing-order = λ sign ps src out r out' W. rw W.answers (written-order sign ps src out);
-  length-order = length-order;
+  writing-order = λ sign ps src out r out' W. rw W.answers (parts-order (fine sign ps src out) (other sign ps src out (leb (true_length sign ps) (length out)) refl) sign ps (length src));
+  length-order = λ sign ps source. parts-order (Ok (held (true_length sign ps))) ((λ h. omega arith), (λ h. omega arith)) sign ps source;
 }
   where
-    other : (sign : ℕ) (ps : List Part) (src out : List ℕ) (b : Bool) → leb (true_length sign ps) (length out) ≡ b → (wrote_number (fine sign ps src out) ≡ 6 → ⊥) × (wrote_number (fine sign ps src out) ≡ 9 → ⊥)
+    sign-codes : (code : ℕ) → parts.known (parts.sign_of code) ≡ leb code 2
+    sign-codes zero = refl
+    sign-codes (suc zero) = refl
+    sign-codes (suc (suc zero)) = refl
+    sign-codes (suc (suc (suc code))) = sym (lt-leb (suc (suc (suc code))) 2 (omega arith))
+
+    kind-codes : (kind number zeros start len : ℕ) → known_part (parts.part_of kind number zeros start len) ≡ leb kind 2
+    kind-codes zero _ _ _ _ = refl
+    kind-codes (suc zero) _ _ _ _ = refl
+    kind-codes (suc (suc zero)) _ _ _ _ = refl
+    kind-codes (suc (suc (suc kind))) _ _ _ _ = sym (lt-leb (suc (suc (suc kind))) 2 (omega arith))
+
+    other : (sign : Sign) (ps : List Part) (src out : List ℕ) (b : Bool) → leb (true_length sign ps) (length out) ≡ b → (number_of (fine sign ps src out) ≡ 6 → ⊥) × (number_of (fine sign ps src out) ≡ 9 → ⊥)
     other sign ps src out true e = rw e ((λ h. omega arith), (λ h. omega arith))
     other sign ps src out false e = rw e ((λ h. omega arith), (λ h. omega arith))
-
-    written-order : (sign : ℕ) (ps : List Part) (src out : List ℕ) → PartsInOrder sign ps (length src) (wrote_number (wrote (length src) (length out) sign ps)) (wrote_value (wrote (length src) (length out) sign ps))
-    written-order sign ps src out =
-        parts-order wrote_number wrote_value write.OptionsRefused (fine sign ps src out) write.PartRefused refl refl (λ k. (refl, refl)) (other sign ps src out (leb (true_length sign ps) (length out)) refl) sign ps (length src)
-
-    length-order : (sign : ℕ) (ps : List Part) (source : ℕ) → PartsInOrder sign ps source (measured_number (measured source sign ps)) (measured_value (measured source sign ps))
-    length-order sign ps source =
-        parts-order measured_number measured_value measure.OptionsRefused (measure.Done (held (true_length sign ps))) measure.PartRefused refl refl (λ k. (refl, refl)) ((λ h. omega arith), (λ h. omega arith)) sign ps source
 
 -- ---- the end entries
 

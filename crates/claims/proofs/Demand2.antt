@@ -1,7 +1,7 @@
 -- Demand 2: the rules of the text, and the round trip from the reader's laws. Assumes nothing.
-use Rattle.std.proofs.Common.{◌≡◌, ℕ, zero, suc, ◌+◌, ◌-◌, ◌^◌, ◌<◌, ◌≤◌, max, Bool, true, false, cond, eqb, leb, ◌⊎◌, List, [], ◌∷◌, ◌++◌, length, replicate, ℤ, pos, negsuc, sym, refl, ap, ◌∙◌, subst, ap₂, inl, inr, append_assoc, append-nil, add_assoc, arith, lit≤, length-append, ne_eqb, le-leb}
+use Rattle.std.proofs.Common.{Ok, Err, ◌≡◌, ℕ, zero, suc, ◌+◌, ◌-◌, ◌^◌, ◌<◌, ◌≤◌, max, Bool, true, false, cond, eqb, leb, ◌⊎◌, List, [], ◌∷◌, ◌++◌, length, replicate, ℤ, pos, negsuc, sym, refl, ap, ◌∙◌, subst, ap₂, inl, inr, append_assoc, append-nil, add_assoc, arith, lit≤, length-append, ne_eqb, le-leb}
 use mathlib.Core.Bool.{false≢true}
-use mathlib.Core.Option.{Option}
+use Rattle.std.specs.Prelude.{Option, None}
 use borrow.Author.Tests.{lt-leb}
 use lib.Count.{count_leading_zeros}
 use Rattle.digits.specs.Digits.{up_to, bare, digits, last}
@@ -13,17 +13,13 @@ use Rattle.kinds.proofs.Patterns.{one-pattern}
 use Rattle.kinds.proofs.Sizes.{known-range, greatest-unsigned, greatest-signed}
 use Rattle.padding.specs.Padding.{sign_of, prefix_of, before_of, zeros_of, behind_of, Planned, padded}
 use Rattle.padding.proofs.Padding.{plan-none, plan-zeros, plan-left, plan-centre, plan-right, no-prefix-low, no-prefix-high, padded-is, padded-length}
-use Rattle.outcomes.specs.Outcomes.{number_of, value_of}
-use Rattle.outcomes.specs.declared.Outcome.{Outcome}
-use Rattle.outcomes.specs.declared.Outcome.TheVariants as outcome
+use Rattle.outcomes.specs.Outcomes.{Outcome, number_of, value_of}
+use Rattle.outcomes.specs.declared.Fault.TheVariants as fault
 use Rattle.radix.specs.Radix.{radix}
 use Rattle.radix.proofs.Lengths.{radix-length}
 use Rattle.reader.specs.Answers.{Judges, Passes, Answers}
 use Rattle.reader.proofs.Outcomes.{passed, one_answer, read_plain, read_back, read_only, read-refused}
 use Rattle.reading.specs.Formats.{form, plain}
-use Rattle.scaling.specs.Coefficient.{precision_of}
-use Rattle.scaling.specs.declared.Precision.{Precision}
-use Rattle.scaling.specs.declared.Precision.TheVariants.{None}
 use Rattle.scientific.specs.Layout.{point, layout, exp_text}
 use Rattle.scientific.specs.Sci.{exponent_of, trimmed, short, sci}
 use Rattle.scientific.proofs.Steps.{long-text, zero-text}
@@ -39,13 +35,13 @@ of-digits = record { are = λ b n h. canonical b h n; only = λ b n ds h C. uniq
 -- ---- the text at the house default
 
 -- nothing stands around it but a minus
-unframed-text : (bits : ℕ) (z : ℤ) (format : ℕ) (o : Options) (p : Precision) → Unframed o p → text_of bits z format o ≡ sign_of (minus format z) false ++ body format bits (precision_of p) z
+unframed-text : (bits : ℕ) (z : ℤ) (format : ℕ) (o : Options) (p : Option ℕ) → Unframed o p → text_of bits z format o ≡ sign_of (minus format z) false ++ body format bits p z
 unfolding text_of
 unframed-text bits z format o p U =
-    unframes o (minus format z) format (body format bits (precision_of o.precision) z) U
-    ∙ ap (λ (q : Precision). sign_of (minus format z) false ++ body format bits (precision_of q) z) U.precision
+    unframes o (minus format z) format (body format bits o.precision z) U
+    ∙ ap (λ (q : Option ℕ). sign_of (minus format z) false ++ body format bits q z) U.precision
 
-bare-text : (bits : ℕ) (z : ℤ) (format : ℕ) → text_of bits z format house ≡ sign_of (minus format z) false ++ body format bits (precision_of None) z
+bare-text : (bits : ℕ) (z : ℤ) (format : ℕ) → text_of bits z format house ≡ sign_of (minus format z) false ++ body format bits None z
 bare-text bits z format = unframed-text bits z format house None house-unframed
 
 -- it is the plain text that the reader's definitions speak of
@@ -119,7 +115,7 @@ no_minus format z h k = rw (ne_eqb format 0 (λ e. omega arith), le-leb format 4
 pub of-options : OfOptions
 unfolding text_of
 of-options = record {
-  padding = λ bits z format o. padded-clauses o (sign_of (minus format z) o.plus) (prefix_of o.alternate format) (body format bits (precision_of o.precision) z);
+  padding = λ bits z format o. padded-clauses o (sign_of (minus format z) o.plus) (prefix_of o.alternate format) (body format bits o.precision z);
   minus-sign = minus-sign;
   plus-sign = λ format n. let e = positive format n in (rw e refl, rw e refl);
   pattern-sign = λ format z h k. let e = no_minus format z h k in (rw e refl, rw e refl);
@@ -127,7 +123,7 @@ of-options = record {
   octal = refl;
   hex = (refl, refl);
   no-prefix = no-prefix;
-  no-precision = λ bits z format o p h. ap (framed o (minus format z) format) (body-any format bits (precision_of p) (precision_of o.precision) z h);
+  no-precision = λ bits z format o p h. ap (framed o (minus format z) format) (body-any format bits p o.precision z h);
 }
   where
     minus-sign : (format k : ℕ) (plus : Bool) → (format ≡ 0) ⊎ (4 < format) → sign_of (minus format (negsuc k)) plus ≡ 45 ∷ []
@@ -176,7 +172,7 @@ of-lengths = record {
   padded = λ bits z format o.
       let sign = sign_of (minus format z) o.plus in
       let prefix = prefix_of o.alternate format in
-      let digits = body format bits (precision_of o.precision) z in
+      let digits = body format bits o.precision z in
       let k = o.width - (length sign + (length prefix + length digits)) in
       let n = padded-length o.zero o.fill o.align o.width sign prefix digits {before = before_of o.zero o.align k} {zeros = zeros_of o.zero k} {behind = behind_of o.zero o.align k} (record { before-is = refl; zeros-is = refl; behind-is = refl }) in
       wide o.width (length sign + (length prefix + length digits)) _ (omega (arith, lacking-whole o.zero o.align k));
@@ -207,56 +203,56 @@ trip sgn bits format k h = record {
   only = λ t v A. let z = read_only sgn bits format k h t v A in (z.0, z.1, z.2 ∙ sym (plain-text bits format z.0 h), z.3);
   refused = λ t r f A. read-refused sgn bits format k h t r (λ z i e. f z i (e ∙ sym (plain-text bits format z h))) A;
   apart = λ y z i j e. let b = known-range bits k in one-pattern 64 bits sgn y z (lit≤ tt) b.1 i j
-      (done (sym (back y (outcome.Done (pattern 64 z)) i (subst (λ (t : List ℕ). Answers sgn bits format t (outcome.Done (pattern 64 z))) (sym e) (answered z j)))));
+      (done (sym (back y (Ok (pattern 64 z)) i (subst (λ (t : List ℕ). Answers sgn bits format t (Ok (pattern 64 z))) (sym e) (answered z j)))));
 }
   where
-    back : (z : ℤ) (r : Outcome) → is_in_type sgn bits z ≡ true → Answers sgn bits format (text_of bits z format house) r → r ≡ outcome.Done (pattern 64 z)
+    back : (z : ℤ) (r : Outcome) → is_in_type sgn bits z ≡ true → Answers sgn bits format (text_of bits z format house) r → r ≡ Ok (pattern 64 z)
     back z r i A = read_back sgn bits format k h z r i (subst (λ (t : List ℕ). Answers sgn bits format t r) (plain-text bits format z h) A)
 
-    answered : (z : ℤ) → is_in_type sgn bits z ≡ true → Answers sgn bits format (text_of bits z format house) (outcome.Done (pattern 64 z))
-    answered z i = subst (λ (t : List ℕ). Answers sgn bits format t (outcome.Done (pattern 64 z))) (sym (plain-text bits format z h)) (read_plain sgn bits format k h z i)
+    answered : (z : ℤ) → is_in_type sgn bits z ≡ true → Answers sgn bits format (text_of bits z format house) (Ok (pattern 64 z))
+    answered z i = subst (λ (t : List ℕ). Answers sgn bits format t (Ok (pattern 64 z))) (sym (plain-text bits format z h)) (read_plain sgn bits format k h z i)
 
-    done : {u v : ℕ} → outcome.Done u ≡ outcome.Done v → u ≡ v
+    done : {u v : ℕ} → ◌≡◌ {A = Outcome} (Ok u) (Ok v) → u ≡ v
     done e = ap value_of e
 
 -- ---- the refusals
 
 -- the outcome that has the number n and returns v
 abbrev outcome_of : ℕ → ℕ → Outcome
-outcome_of zero v = outcome.Done v
-outcome_of (suc zero) v = outcome.Empty
-outcome_of (suc (suc zero)) v = outcome.Shape v
-outcome_of (suc (suc (suc zero))) v = outcome.NotCanonical
-outcome_of (suc (suc (suc (suc zero)))) v = outcome.Range
-outcome_of (suc (suc (suc (suc (suc zero))))) v = outcome.TypeRefused
-outcome_of (suc (suc (suc (suc (suc (suc k)))))) v = outcome.OptionsRefused
+outcome_of zero v = Ok v
+outcome_of (suc zero) v = Err fault.Empty
+outcome_of (suc (suc zero)) v = Err (fault.Shape v)
+outcome_of (suc (suc (suc zero))) v = Err fault.NotCanonical
+outcome_of (suc (suc (suc (suc zero)))) v = Err fault.Range
+outcome_of (suc (suc (suc (suc (suc zero))))) v = Err fault.Type
+outcome_of (suc (suc (suc (suc (suc (suc k)))))) v = Err fault.Options
 
 numbered : (r : Outcome) → r ≡ outcome_of (number_of r) (value_of r)
-numbered (outcome.Done v) = refl
-numbered outcome.Empty = refl
-numbered (outcome.Shape k) = refl
-numbered outcome.NotCanonical = refl
-numbered outcome.Range = refl
-numbered outcome.TypeRefused = refl
-numbered outcome.OptionsRefused = refl
+numbered (Ok v) = refl
+numbered (Err fault.Empty) = refl
+numbered (Err (fault.Shape k)) = refl
+numbered (Err fault.NotCanonical) = refl
+numbered (Err fault.Range) = refl
+numbered (Err fault.Type) = refl
+numbered (Err fault.Options) = refl
 
 nothing : (r : Outcome) → 1 ≤ number_of r → (number_of r ≡ 2 → ⊥) → value_of r ≡ 0
-nothing (outcome.Done v) h f = absurd (omega arith)
-nothing outcome.Empty h f = refl
-nothing (outcome.Shape k) h f = absurd (f refl)
-nothing outcome.NotCanonical h f = refl
-nothing outcome.Range h f = refl
-nothing outcome.TypeRefused h f = refl
-nothing outcome.OptionsRefused h f = refl
+nothing (Ok v) h f = absurd (omega arith)
+nothing (Err fault.Empty) h f = refl
+nothing (Err (fault.Shape k)) h f = absurd (f refl)
+nothing (Err fault.NotCanonical) h f = refl
+nothing (Err fault.Range) h f = refl
+nothing (Err fault.Type) h f = refl
+nothing (Err fault.Options) h f = refl
 
 numbers : (r : Outcome) → number_of r ≤ 6
-numbers (outcome.Done v) = lit≤ tt
-numbers outcome.Empty = lit≤ tt
-numbers (outcome.Shape k) = lit≤ tt
-numbers outcome.NotCanonical = lit≤ tt
-numbers outcome.Range = lit≤ tt
-numbers outcome.TypeRefused = lit≤ tt
-numbers outcome.OptionsRefused = lit≤ tt
+numbers (Ok v) = lit≤ tt
+numbers (Err fault.Empty) = lit≤ tt
+numbers (Err (fault.Shape k)) = lit≤ tt
+numbers (Err fault.NotCanonical) = lit≤ tt
+numbers (Err fault.Range) = lit≤ tt
+numbers (Err fault.Type) = lit≤ tt
+numbers (Err fault.Options) = lit≤ tt
 
 module _ (sgn : Bool) (bits format : ℕ) (t : List ℕ) (r : Outcome) (A : Answers sgn bits format t r) where
   -- by its number and value, the outcome is known; and whatever answers is the outcome
@@ -274,15 +270,15 @@ module _ (sgn : Bool) (bits format : ℕ) (t : List ℕ) (r : Outcome) (A : Answ
 
   refuses : Refuses sgn bits format t (number_of r) (value_of r)
   refuses = record {
-    type = ((λ e. told 5 (value_of r) e refl), (λ h. ap number_of (is outcome.TypeRefused h)));
-    options = ((λ e. told 6 (value_of r) e refl), (λ h. ap number_of (is outcome.OptionsRefused h)));
-    empty = ((λ e. told 1 (value_of r) e refl), (λ h. ap number_of (is outcome.Empty h)));
+    type = ((λ e. told 5 (value_of r) e refl), (λ h. ap number_of (is (Err fault.Type) h)));
+    options = ((λ e. told 6 (value_of r) e refl), (λ h. ap number_of (is (Err fault.Options) h)));
+    empty = ((λ e. told 1 (value_of r) e refl), (λ h. ap number_of (is (Err fault.Empty) h)));
     shape = λ k. (
-      (λ e. let P = told 2 k e.0 e.1 in (asked (outcome.Shape k) P, P.judges)),
-      (λ h. let e = judged (outcome.Shape k) h.0 h.1 in (ap number_of e, ap value_of e)),
+      (λ e. let P = told 2 k e.0 e.1 in (asked (Err (fault.Shape k)) P, P.judges)),
+      (λ h. let e = judged (Err (fault.Shape k)) h.0 h.1 in (ap number_of e, ap value_of e)),
     );
-    not-canonical = ((λ e. let P = told 3 (value_of r) e refl in (asked outcome.NotCanonical P, P.judges)), (λ h. ap number_of (judged outcome.NotCanonical h.0 h.1)));
-    range = ((λ e. let P = told 4 (value_of r) e refl in (asked outcome.Range P, P.judges)), (λ h. ap number_of (judged outcome.Range h.0 h.1)));
+    not-canonical = ((λ e. let P = told 3 (value_of r) e refl in (asked (Err fault.NotCanonical) P, P.judges)), (λ h. ap number_of (judged (Err fault.NotCanonical) h.0 h.1)));
+    range = ((λ e. let P = told 4 (value_of r) e refl in (asked (Err fault.Range) P, P.judges)), (λ h. ap number_of (judged (Err fault.Range) h.0 h.1)));
     nothing = nothing r;
     numbers = numbers r;
   }

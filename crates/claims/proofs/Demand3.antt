@@ -1,6 +1,5 @@
 -- Demand 3, as `scientific` proves it. Assumes nothing.
-use Rattle.std.proofs.Common.{pos, lit<}
-use Rattle.scaling.specs.declared.Precision.TheVariants.{Digits}
+use Rattle.std.proofs.Common.{Some, pos, lit<}
 use Rattle.scientific.specs.Sci.{sci}
 use Rattle.scientific.proofs.Demand.{demand3, shortest, zero-denotes}
 use Rattle.scientific.proofs.Fixed.{fixed-expo}
@@ -12,7 +11,7 @@ pub of-exponent : OfExponent
 unfolding sci
 of-exponent = record {
   written = λ bits n p o U h.
-      let t = of-text.exponent-is bits (pos n) o (Digits p) U in
+      let t = of-text.exponent-is bits (pos n) o (Some p) U in
       let k = fixed-expo 99 n p (lit< tt) h in
       (rw t.0 (demand3 101 n p (lit< tt) k), rw t.1 (demand3 69 n p (lit< tt) k));
   rounded = λ letter n p h k. demand3 letter n p h k;

@@ -1,20 +1,19 @@
 -- Demand 1, of what an entry answers and of every lent byte. That each call ends and stays inside lent memory is what the check shows of every function.
-use Rattle.std.specs.Prelude.{◌≡◌, ℕ, ◌-◌, ◌<◌, ◌≤◌, Bool, true, false, ◌&&◌, ◌↔◌, List, ◌∷◌, ◌++◌, length, ℤ, ◌≢◌}
+use Rattle.std.specs.Prelude.{◌≡◌, ℕ, ◌-◌, ◌<◌, ◌≤◌, Bool, true, false, ◌&&◌, leb, ◌↔◌, List, ◌∷◌, ◌++◌, length, ℤ, ◌≢◌}
 use Rattle.buffer.specs.AtEnd.{ended, begun}
 use Rattle.decimal.specs.Ends.{EndPromise}
 use Rattle.digits.specs.Text.{decimal, signed}
 use Rattle.edge.specs.Edge as edge
 use Rattle.kinds.specs.Kinds.{known, is_in_type, meaning}
 use Rattle.part_answers.specs.Answers as parting
-use Rattle.part_answers.specs.Answers.{measured, measured_number, measured_value, wrote_number, wrote_value}
-use Rattle.part_answers.specs.declared.Wrote.{Wrote}
+use Rattle.part_answers.specs.Answers.{Answer, measured, number_of, value_of}
 use Rattle.parts.specs.Parts as parts
-use Rattle.parts.specs.Parts.{all_known, leaves_source, Inside, held}
+use Rattle.parts.specs.Parts.{known_part, all_known, leaves_source, Inside, held}
 use Rattle.parts.specs.declared.Part.{Part}
+use Rattle.parts.specs.declared.Sign.{Sign}
 use Rattle.writing.specs.Text.{text_of}
-use Rattle.writing.specs.Promise.{known_options, exponent_kept, number, value, answer_of, answer, Writes}
+use Rattle.writing.specs.Promise.{Written, known_options, exponent_kept, number, value, answer_of, answer, Writes}
 use Rattle.writing.specs.declared.Options.{Options}
-use Rattle.writing.specs.declared.Written.{Written}
 
 -- n is the number of the answer to a call for the text t in the buffer l, v what it returns, and l' the buffer afterwards.
 -- Earlier says that no check before NO_ROOM refuses; `told` is how a length is told.
@@ -72,7 +71,7 @@ pub record OfWriting : Type 0 where
       → InOrder (known bits) (is_in_type signed bits (meaning 64 signed p)) (known_options format o) (exponent_kept format o (meaning 64 signed p)) n v
 
 -- Of parts, three by value or a list of any length: every code is known, and no copied run leaves its source. NO_ROOM tells a length that is held at 2^64 - 1.
-pub record Sound (sign : ℕ) (ps : List Part) (src : List ℕ) : Type 0 where
+pub record Sound (sign : Sign) (ps : List Part) (src : List ℕ) : Type 0 where
   pub codes : (parts.known sign && all_known ps) ≡ true
   pub inside : Inside (length src) ps
 
@@ -87,18 +86,21 @@ pub record FirstOut (source : ℕ) (ps : List Part) (k : ℕ) : Type 0 where
   pub leaves : leaves_source source part ≡ true
 
 -- n is the number of an answer to parts, and v what it returns: 6 exactly when a code is unknown, 9 exactly when all are known and a part leaves its source, with the first that does.
-pub record PartsInOrder (sign : ℕ) (ps : List Part) (source n v : ℕ) : Type 0 where
+pub record PartsInOrder (sign : Sign) (ps : List Part) (source n v : ℕ) : Type 0 where
   pub six : (n ≡ 6) ↔ ((parts.known sign && all_known ps) ≡ false)
   pub nine : (k : ℕ) → ((n ≡ 9) × (v ≡ k)) ↔ (((parts.known sign && all_known ps) ≡ true) × FirstOut source ps k)
   pub nothing : n ≡ 6 → v ≡ 0
 
 pub record OfParts : Type 0 where
-  pub writing : (sign : ℕ) (ps : List Part) (src out : List ℕ) (r : Wrote) (out' : List ℕ) → parting.Writes sign ps src out r out'
-      → Demand1 (Sound sign ps src) held (parts.text_of sign src ps) out (wrote_number r) (wrote_value r) out'
+  -- a sign code is known up to 2, and so is the code of a part's kind
+  pub sign-codes : (code : ℕ) → parts.known (parts.sign_of code) ≡ leb code 2
+  pub kind-codes : (kind number zeros start len : ℕ) → known_part (parts.part_of kind number zeros start len) ≡ leb kind 2
+  pub writing : (sign : Sign) (ps : List Part) (src out : List ℕ) (r : Answer) (out' : List ℕ) → parting.Writes sign ps src out r out'
+      → Demand1 (Sound sign ps src) held (parts.text_of sign src ps) out (number_of r) (value_of r) out'
   -- the numbers of the same answers, and of the length alone
-  pub writing-order : (sign : ℕ) (ps : List Part) (src out : List ℕ) (r : Wrote) (out' : List ℕ) → parting.Writes sign ps src out r out'
-      → PartsInOrder sign ps (length src) (wrote_number r) (wrote_value r)
-  pub length-order : (sign : ℕ) (ps : List Part) (source : ℕ) → PartsInOrder sign ps source (measured_number (measured source sign ps)) (measured_value (measured source sign ps))
+  pub writing-order : (sign : Sign) (ps : List Part) (src out : List ℕ) (r : Answer) (out' : List ℕ) → parting.Writes sign ps src out r out'
+      → PartsInOrder sign ps (length src) (number_of r) (value_of r)
+  pub length-order : (sign : Sign) (ps : List Part) (source : ℕ) → PartsInOrder sign ps source (number_of (measured source sign ps)) (value_of (measured source sign ps))
 
 -- Of the end entries, the C edge's also, whose only refusal is NO_ROOM: r is where the text starts, and the buffer's length on refusal.
 pub record OfEnds : Type 0 where

@@ -1,22 +1,17 @@
 -- Demand 2: what the text is, by document 01's rules; and that plain texts are read back, and they alone. Over every type, format and value.
-use Rattle.std.specs.Prelude.{◌≡◌, ℕ, suc, ◌+◌, ◌-◌, ◌/◌, ◌^◌, ◌<◌, ◌≤◌, max, Bool, true, false, cond, ◌⊎◌, ◌↔◌, List, [], ◌∷◌, ◌++◌, length, replicate, ℤ, pos, negsuc, ◌==◌, ◌≢◌, unsigned_abs}
-use Rattle.std.proofs.Math.Option.{none, some}
+use Rattle.std.specs.Prelude.{Ok, Option, None, Some, ◌≡◌, ℕ, suc, ◌+◌, ◌-◌, ◌/◌, ◌^◌, ◌<◌, ◌≤◌, max, Bool, true, false, cond, ◌⊎◌, ◌↔◌, List, [], ◌∷◌, ◌++◌, length, replicate, ℤ, pos, negsuc, ◌==◌, ◌≢◌, unsigned_abs}
 use Rattle.std.specs.Int.Count.{count_leading_zeros}
 use Rattle.digits.specs.Digits.{Canonical, digits}
 use Rattle.digits.specs.Text.{ascii, last_text, decimal}
 use Rattle.edge.specs.Edge as edge
 use Rattle.kinds.specs.Kinds.{known, is_in_type, pattern, negative, Greatest}
-use Rattle.outcomes.specs.Outcomes.{number_of, value_of}
-use Rattle.outcomes.specs.declared.Outcome.{Outcome}
-use Rattle.outcomes.specs.declared.Outcome.TheVariants as outcome
+use Rattle.outcomes.specs.Outcomes.{Outcome, number_of, value_of}
 use Rattle.padding.specs.Padding.{sign_of, prefix_of}
 use Rattle.radix.specs.Radix.{radix, digit_bits, rounded_up}
 use Rattle.reader.specs.Answers.{Answers}
 use Rattle.reading.specs.Form.{Place}
 use Rattle.reading.specs.Formats.{form}
 use Rattle.reading.specs.Judged.{NotCanonical, OutOfRange}
-use Rattle.scaling.specs.Coefficient.{precision_of}
-use Rattle.scaling.specs.declared.Precision.{Precision}
 use Rattle.scientific.specs.Layout.{point, exp_text}
 use Rattle.scientific.specs.Sci.{exponent_of}
 use Rattle.writing.specs.Text.{minus, body, unframed, text_of}
@@ -37,14 +32,14 @@ pub record OfText : Type 0 where
   -- binary, octal and hex show the two's complement pattern at the type's own bits
   pub radix-is : (bits format : ℕ) (z : ℤ) → 1 ≤ format → format ≤ 4 → text_of bits z format house ≡ radix format (pattern bits z)
   -- exponent form, with precision p or none; a negative is `-` and the text of its magnitude. Demand 3 speaks of `exp_text`
-  pub exponent-is : (bits : ℕ) (z : ℤ) (o : Options) (p : Precision) → Unframed o p
-      → (text_of bits z 5 o ≡ unframed (negative z) (exp_text 101 (precision_of p) (unsigned_abs z))) × (text_of bits z 6 o ≡ unframed (negative z) (exp_text 69 (precision_of p) (unsigned_abs z)))
+  pub exponent-is : (bits : ℕ) (z : ℤ) (o : Options) (p : Option ℕ) → Unframed o p
+      → (text_of bits z 5 o ≡ unframed (negative z) (exp_text 101 p (unsigned_abs z))) × (text_of bits z 6 o ≡ unframed (negative z) (exp_text 69 p (unsigned_abs z)))
   -- if p is at least e, the digits of n and then p - e zeros, exponent e
-  pub exponent-long : (letter n p : ℕ) → exponent_of n ≤ p → exp_text letter (some p) n
+  pub exponent-long : (letter n p : ℕ) → exponent_of n ≤ p → exp_text letter (Some p) n
       ≡ (ascii (n / 10 ^ exponent_of n) ∷ point p ++ last_text ascii 10 (exponent_of n) n) ++ (replicate (p - exponent_of n) 48 ++ letter ∷ decimal (exponent_of n))
   -- zero has p fraction zeros and exponent 0; without precision it is `0e0`
-  pub exponent-zero : (letter p : ℕ) → exp_text letter (some p) 0 ≡ 48 ∷ point p ++ (replicate p 48 ++ letter ∷ 48 ∷ [])
-  pub exponent-none : (letter : ℕ) → exp_text letter none 0 ≡ 48 ∷ letter ∷ 48 ∷ []
+  pub exponent-zero : (letter p : ℕ) → exp_text letter (Some p) 0 ≡ 48 ∷ point p ++ (replicate p 48 ++ letter ∷ 48 ∷ [])
+  pub exponent-none : (letter : ℕ) → exp_text letter None 0 ≡ 48 ∷ letter ∷ 48 ∷ []
 
 -- What s lacks to the width.
 abbrev pub lacking : Options → List ℕ → ℕ
@@ -64,13 +59,13 @@ pub record Padded (o : Options) (front digits t : List ℕ) : Type 0 where
   pub centre : o.zero ≡ false → o.align ≡ 2
       → t ≡ replicate (lacking o (front ++ digits) / 2) o.fill ++ ((front ++ digits) ++ replicate (lacking o (front ++ digits) - lacking o (front ++ digits) / 2) o.fill)
 
-abbrev pub with_precision : Options → Precision → Options
+abbrev pub with_precision : Options → Option ℕ → Options
 with_precision o p = record { plus = o.plus; alternate = o.alternate; zero = o.zero; fill = o.fill; align = o.align; width = o.width; precision = p }
 
 -- The text with options: sign and prefix, the digits, padding.
 pub record OfOptions : Type 0 where
   pub padding : (bits : ℕ) (z : ℤ) (format : ℕ) (o : Options)
-      → Padded o (sign_of (minus format z) o.plus ++ prefix_of o.alternate format) (body format bits (precision_of o.precision) z) (text_of bits z format o)
+      → Padded o (sign_of (minus format z) o.plus ++ prefix_of o.alternate format) (body format bits o.precision z) (text_of bits z format o)
   -- `-` for a negative in decimal and exponent forms
   pub minus-sign : (format k : ℕ) (plus : Bool) → (format ≡ 0) ⊎ (4 < format) → sign_of (minus format (negsuc k)) plus ≡ 45 ∷ []
   -- else `+` under the plus flag; binary, octal and hex count as nonnegative
@@ -82,7 +77,7 @@ pub record OfOptions : Type 0 where
   pub hex : (prefix_of true 3 ≡ 48 ∷ 120 ∷ []) × (prefix_of true 4 ≡ 48 ∷ 120 ∷ [])
   pub no-prefix : (alternate : Bool) (format : ℕ) → (alternate ≡ false) ⊎ ((format ≡ 0) ⊎ (4 < format)) → prefix_of alternate format ≡ []
   -- precision is ignored outside the exponent forms
-  pub no-precision : (bits : ℕ) (z : ℤ) (format : ℕ) (o : Options) (p : Precision) → format ≤ 4 → text_of bits z format (with_precision o p) ≡ text_of bits z format o
+  pub no-precision : (bits : ℕ) (z : ℤ) (format : ℕ) (o : Options) (p : Option ℕ) → format ≤ 4 → text_of bits z format (with_precision o p) ≡ text_of bits z format o
 
 -- Lengths: binary has as many digits as the bits the pattern needs, octal and hex a third and a quarter of them, rounded up.
 pub record OfLengths : Type 0 where
@@ -92,7 +87,7 @@ pub record OfLengths : Type 0 where
   -- with options: the width, or what stands there without it if that is longer
   pub padded : (bits : ℕ) (z : ℤ) (format : ℕ) (o : Options)
       → length (text_of bits z format o)
-      ≡ max o.width (length (sign_of (minus format z) o.plus) + (length (prefix_of o.alternate format) + length (body format bits (precision_of o.precision) z)))
+      ≡ max o.width (length (sign_of (minus format z) o.plus) + (length (prefix_of o.alternate format) + length (body format bits o.precision z)))
 
 -- Sizes: the greatest decimal length of each type.
 pub record OfSizes : Type 0 where
@@ -108,10 +103,10 @@ pub record OfSizes : Type 0 where
 -- Of a type and a format: what the short form writes is read back, and what is read was written so.
 pub record RoundTrip (sgn : Bool) (bits format : ℕ) : Type 0 where
   -- reading the plain text of a value gives back the value, as a 64-bit pattern, and nothing else
-  pub back : (z : ℤ) (r : Outcome) → is_in_type sgn bits z ≡ true → Answers sgn bits format (text_of bits z format house) r → r ≡ outcome.Done (pattern 64 z)
-  pub answered : (z : ℤ) → is_in_type sgn bits z ≡ true → Answers sgn bits format (text_of bits z format house) (outcome.Done (pattern 64 z))
+  pub back : (z : ℤ) (r : Outcome) → is_in_type sgn bits z ≡ true → Answers sgn bits format (text_of bits z format house) r → r ≡ Ok (pattern 64 z)
+  pub answered : (z : ℤ) → is_in_type sgn bits z ≡ true → Answers sgn bits format (text_of bits z format house) (Ok (pattern 64 z))
   -- the accepted texts are exactly the written plain texts
-  pub only : (t : List ℕ) (v : ℕ) → Answers sgn bits format t (outcome.Done v) → (z : ℤ) × (is_in_type sgn bits z ≡ true) × (t ≡ text_of bits z format house) × (v ≡ pattern 64 z)
+  pub only : (t : List ℕ) (v : ℕ) → Answers sgn bits format t (Ok v) → (z : ℤ) × (is_in_type sgn bits z ≡ true) × (t ≡ text_of bits z format house) × (v ≡ pattern 64 z)
   -- a text that no value of the type has is refused
   pub refused : (t : List ℕ) (r : Outcome) → ((z : ℤ) → is_in_type sgn bits z ≡ true → t ≢ text_of bits z format house) → Answers sgn bits format t r → number_of r ≢ 0
   -- two values with one text are one

@@ -1,15 +1,14 @@
 -- Document 01's starred trials, of the definitions, under one claim.
-use Rattle.std.specs.Prelude.{◌≡◌, ℕ, ◌-◌, ◌^◌, true, false, [], ◌∷◌, length, pos, negsuc}
-use Rattle.outcomes.specs.declared.Outcome.TheVariants as outcome
+use Rattle.std.specs.Prelude.{Ok, Err, None, Some, ◌≡◌, ℕ, ◌-◌, ◌^◌, true, false, [], ◌∷◌, length, pos, negsuc}
+use Rattle.outcomes.specs.declared.Fault.TheVariants as fault
 use Rattle.reader.specs.Answers.{Answers}
-use Rattle.scaling.specs.declared.Precision.TheVariants.{None, Digits}
 use Rattle.writing.specs.Text.{text_of}
 use Rattle.writing.specs.Promise.{house}
 use Rattle.writing.specs.declared.Options.{Options}
 
 -- The house default with a precision.
 abbrev pub places : ℕ → Options
-places p = record { plus = false; alternate = false; zero = false; fill = 32; align = 0; width = 0; precision = Digits p }
+places p = record { plus = false; alternate = false; zero = false; fill = 32; align = 0; width = 0; precision = Some p }
 
 pub record Starred : Type 0 where
   -- u8 0, decimal: `0`
@@ -38,6 +37,6 @@ pub record Starred : Type 0 where
   pub largest : text_of 64 (pos (2 ^ 64 - 1)) 5 (places 0) ≡ 50 ∷ 101 ∷ 49 ∷ 57 ∷ []
   pub twenty : length (text_of 64 (negsuc (2 ^ 63 - 1)) 0 house) ≡ 20
   -- read u8 `255`, `256`, `007`: 255; RANGE; NOT_CANONICAL
-  pub greatest : Answers false 8 0 (50 ∷ 53 ∷ 53 ∷ []) (outcome.Done 255)
-  pub one_more : Answers false 8 0 (50 ∷ 53 ∷ 54 ∷ []) outcome.Range
-  pub zeros-lead : Answers false 8 0 (48 ∷ 48 ∷ 55 ∷ []) outcome.NotCanonical
+  pub greatest : Answers false 8 0 (50 ∷ 53 ∷ 53 ∷ []) (Ok 255)
+  pub one_more : Answers false 8 0 (50 ∷ 53 ∷ 54 ∷ []) (Err fault.Range)
+  pub zeros-lead : Answers false 8 0 (48 ∷ 48 ∷ 55 ∷ []) (Err fault.NotCanonical)

@@ -7,7 +7,11 @@ ghost use Rattle.std.specs.Prelude.{◌≡◌, ◌-◌, ◌<◌, ◌≤◌, leng
 ghost use Rattle.buffer.specs.AtEnd.{ended};
 ghost use Rattle.digits.specs.Text.{decimal};
 
+use words::Word;
+
 // 1 to 4 digits.
+// The end travels beside the buffer, as in all crates of writers: the crate buffer says why.
+// A function for each class, since each stores other words.
 fn end4(n: u32, buf: &mut [u8], end: usize) -> usize
     requires { (n < 10000) × (length (decimal n) ≤ end) × (end ≤ length buf.old) }
     ensures { (result ≡ end - length (decimal n)) × (buf.new ≡ ended buf.old end (decimal n)) }
@@ -18,8 +22,8 @@ fn end4(n: u32, buf: &mut [u8], end: usize) -> usize
         return at;
     }
     let x = eights::four(n);
-    let z = words::zeros4(x);
-    words::tail4(eights::text4(x), z, buf, end)
+    let z = x.zeros();
+    words::tail(lanes::shown4(x), z, buf, end)
 }
 
 // 5 to 8 digits.
@@ -28,8 +32,8 @@ fn end8(n: u32, buf: &mut [u8], end: usize) -> usize
     ensures { (result ≡ end - length (decimal n)) × (buf.new ≡ ended buf.old end (decimal n)) }
 {
     let x = eights::eight(n);
-    let z = words::zeros8(x);
-    words::tail8(eights::text8(x), z, buf, end)
+    let z = x.zeros();
+    words::tail(lanes::shown(x), z, buf, end)
 }
 
 // 9 to 16 digits.
@@ -40,9 +44,9 @@ fn end16(n: u64, buf: &mut [u8], end: usize) -> usize
     let hi = n / 100000000;
     let lo = n % 100000000;
     let x = eights::eight(hi as u32);
-    let z = words::zeros8(x);
-    let y = eights::text8(eights::eight(lo as u32));
-    words::tail16(eights::text8(x), y, z, buf, end)
+    let z = x.zeros();
+    let y = lanes::shown(eights::eight(lo as u32));
+    words::tail_two(lanes::shown(x), y, z, buf, end)
 }
 
 // 17 to 20 digits.
@@ -54,10 +58,10 @@ fn end20(n: u64, buf: &mut [u8], end: usize) -> usize
     let mid = n / 100000000 % 100000000;
     let lo = n % 100000000;
     let x = eights::four(top as u32);
-    let z = words::zeros4(x);
-    let y = eights::text8(eights::eight(mid as u32));
-    let at = words::tail12(eights::text4(x), y, z, buf, end - 8);
-    words::put8(eights::text8(eights::eight(lo as u32)), buf, end - 8);
+    let z = x.zeros();
+    let y = lanes::shown(eights::eight(mid as u32));
+    let at = words::tail_two(lanes::shown4(x), y, z, buf, end - 8);
+    lanes::shown(eights::eight(lo as u32)).put(buf, end - 8);
     at
 }
 

@@ -1,10 +1,10 @@
 -- The front of an exponent text, up to its letter: what stands there, or the place where it leaves the shape.
 -- Assumes nothing.
-use mathlib.Core.Bool.{Bool, true, false, false≢true}
+use mathlib.Core.Bool.{Bool, true, false}
 use mathlib.Core.List.{List, [], ◌∷◌, ◌++◌, map, append_assoc}
 use mathlib.Core.Logic.{◌⊎◌, inl, inr}
 use mathlib.Core.Path.{◌≡◌, refl, sym, ap, ◌∙◌, subst}
-use Prim.Native.Nat.{ℕ, ◌+◌, ◌-◌, ◌^◌, ◌≤◌, ◌<◌}
+use Prim.Native.Nat.{ℕ, ◌+◌, ◌-◌, ◌≤◌, ◌<◌}
 use native.Mathlib.Numerals.{add-one}
 use native.Mathlib.Omega.{arith}
 use lib.Dec.{ltb}
@@ -17,7 +17,7 @@ use Rattle.scientific.specs.Shape.{sign, fraction}
 use Rattle.reading.specs.Form.{Place}
 use Rattle.reading.specs.Formats.{exponent_shape}
 use Rattle.reading.proofs.Exponent.{Figure, After, place-lead, place-point, place-letter}
-use Rattle.digit_runs.specs.Runs.{IsDigit, Digits, Front}
+use Rattle.digit_runs.specs.Runs.{Digits, Front, Held}
 use Rattle.coefficients.specs.Coefficients.{FractionOf, IsCoefficient}
 use Rattle.digit_runs.specs.declared.Run.{Run}
 use Rattle.whole_texts.proofs.Texts.{sized}
@@ -28,9 +28,6 @@ use Rattle.coefficients.proofs.Places.{digits-length, no-figure, misses, ends_at
 lead-value : (d : ℕ) (ds : List ℕ) → value_from 10 d ds ≡ value 10 (d ∷ ds)
 unfolding value value_from
 lead-value d ds = ap (λ (x : ℕ). value_from 10 x ds) (omega arith)
-
-pub no-digit-10 : {byte r : ℕ} → IsDigit 97 byte r → 10 ≤ r → Figure byte → ⊥
-no-digit-10 I h g = let e = I.only g.0 (omega (arith, g.1)) (figure g.0 g.1 ∙ g.2) in omega (arith, g.1)
 
 pub fraction-from : {t : List ℕ} {at lead : ℕ} {r : Run} → FractionOf t at lead r → at ≤ r.end
 fraction-from (inl N) = omega (arith, ap (λ (x : Run). x.end) N.is)
@@ -49,7 +46,7 @@ module _ (sgn : Bool) (letter : ℕ) (l : 57 < letter) (t : List ℕ) (start : �
           let z : start ≡ 0 = F.size ∙ ap (λ (k : Bool). length (sign k)) g.0 in
           F.none g.0 g.1 (ap (λ (k : ℕ). get_or t k 0) (sym z) ∙ g.2)
 
-  module _ (lead : ℕ) (inside : start < length t) (I : IsDigit 97 (get_or t start 0) lead) (p : lead < 10) (r : Run) where
+  module _ (lead : ℕ) (inside : start < length t) (p : lead < 10) (I : lower lead ≡ get_or t start 0) (r : Run) where
     at : ℕ
     at = start + 1
 
@@ -59,7 +56,7 @@ module _ (sgn : Bool) (letter : ℕ) (l : 57 < letter) (t : List ℕ) (start : �
     front-text : t ≡ sign m ++ (ascii lead ∷ drop at t)
     unfolding at m
     front-text =
-        let b : get_or t start 0 ≡ ascii lead = sym (I.is (omega arith)) ∙ figure lead p in
+        let b : get_or t start 0 ≡ ascii lead = sym I ∙ figure lead p in
         let d : drop start t ≡ ascii lead ∷ drop (start + 1) t = rw (add-one start, ← b) (drop-cons t start 0 inside) in
         F.text ∙ ap (λ (u : List ℕ). sign m ++ u) d
 
@@ -82,8 +79,7 @@ module _ (sgn : Bool) (letter : ℕ) (l : 57 < letter) (t : List ℕ) (start : �
       text : t ≡ (sign m ++ (ascii lead ∷ fraction fs)) ++ drop r.end t
       within : r.end ≤ length t
       next : r.end < length t → After letter fs (get_or t r.end 0) → get_or t r.end 0 ≡ letter
-      held : r.over ≡ false → r.value ≡ value 10 (lead ∷ fs)
-      beyond : r.over ≡ true → 2 ^ 64 ≤ value 10 (lead ∷ fs)
+      number : Held r.value (value 10 (lead ∷ fs))
 
     fronted : FractionOf t (start + 1) lead r → (r.end ≡ start + 1 + 1 → ⊥) → (fs : List ℕ) × Fronted fs
     unfolding at m fraction Below value value_from
@@ -98,8 +94,7 @@ module _ (sgn : Bool) (letter : ℕ) (l : 57 < letter) (t : List ℕ) (start : �
           text = front-text ∙ ap (λ (k : ℕ). sign m ++ (ascii lead ∷ drop k t)) (sym z) ∙ sym (append_assoc (sign m) (ascii lead ∷ []) (drop r.end t));
           within = omega (arith, z);
           next = λ h. next h;
-          held = λ o. ap (λ (x : Run). x.value) N.is ∙ lead-value lead [];
-          beyond = λ o. absurd (false≢true (sym (ap (λ (x : Run). x.over) N.is) ∙ o));
+          number = subst (λ (x : Run). Held x.value (value 10 (lead ∷ []))) (sym N.is) (omega (arith, p, lead-value lead []), lead-value lead []);
         }
           where
             next : r.end < length t → After letter [] (get_or t r.end 0) → get_or t r.end 0 ≡ letter
@@ -129,8 +124,7 @@ module _ (sgn : Bool) (letter : ℕ) (l : 57 < letter) (t : List ℕ) (start : �
             text = text g gs e;
             within = D.inside;
             next = λ h. next (get_or t r.end 0) g gs (no-figure t r.end (Q.scanned.stops.stop h));
-            held = λ o. Q.scanned.held o ∙ ap (value_from 10 lead) e ∙ lead-value lead (g ∷ gs);
-            beyond = λ o. subst (λ (x : ℕ). 2 ^ 64 ≤ x) (ap (value_from 10 lead) e ∙ lead-value lead (g ∷ gs)) (Q.scanned.beyond o);
+            number = subst (Held r.value) (ap (value_from 10 lead) e ∙ lead-value lead (g ∷ gs)) Q.scanned.number;
           },
         )
 
@@ -145,14 +139,14 @@ module _ (sgn : Bool) (letter : ℕ) (l : 57 < letter) (t : List ℕ) (start : �
         subst (λ (k : List ℕ). Place (exponent_shape sgn letter) k r.end) (sym W.1.text) (subst (Place (exponent_shape sgn letter) ((sign m ++ (ascii lead ∷ fraction fs)) ++ drop r.end t)) n P)
 
     pub found-coefficient : FractionOf t (start + 1) lead r → (r.end ≡ start + 1 + 1 → ⊥) → r.end < length t → get_or t r.end 0 ≡ letter
-        → IsCoefficient sgn letter t (ltb 0 start) lead (r.end - (start + 1)) r.end r.value r.over
+        → IsCoefficient sgn letter t (record { minus = ltb 0 start; lead = lead; size = r.end - (start + 1); end = r.end; value = r.value })
     unfolding m
     found-coefficient Q f h e =
         let W = fronted Q f in
         let fs = W.0 in
         let n = ends_at (sign m ++ (ascii lead ∷ fraction fs)) t r.end W.1.within W.1.text in
         let d : drop r.end t ≡ letter ∷ drop (r.end + 1) t = rw (add-one r.end, ← e) (drop-cons t r.end 0 h) in
-        subst (λ (k : Bool). IsCoefficient sgn letter t k lead (r.end - (start + 1)) r.end r.value r.over) (sym (ap (ltb 0) F.size ∙ sized m))
+        subst (λ (k : Bool). IsCoefficient sgn letter t (record { minus = k; lead = lead; size = r.end - (start + 1); end = r.end; value = r.value })) (sym (ap (ltb 0) F.size ∙ sized m))
         (record {
           allowed = F.allowed;
           digit = p;
@@ -162,6 +156,5 @@ module _ (sgn : Bool) (letter : ℕ) (l : 57 < letter) (t : List ℕ) (start : �
           inside = h;
           front = sym n;
           text = W.1.text ∙ append_assoc (sign m) (ascii lead ∷ fraction fs) (drop r.end t) ∙ ap (λ (k : List ℕ). sign m ++ (ascii lead ∷ fraction fs ++ k)) d;
-          held = W.1.held;
-          beyond = W.1.beyond;
+          number = W.1.number;
         })

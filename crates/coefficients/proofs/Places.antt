@@ -5,13 +5,22 @@ use mathlib.Core.Path.{◌≡◌, sym, ap, ◌∙◌, subst}
 use Prim.Native.Nat.{ℕ, suc, ◌+◌, ◌≤◌, ◌<◌}
 use native.Mathlib.Decide.{dec_le}
 use native.Mathlib.Omega.{arith}
+use lib.Dec.{lit<}
 use lib.ListN.{length, get_or, drop, length-append, length-drop, length-map, drop_of_length-le}
 use lib.Seq.{drop-cons}
+use Rattle.formats.specs.declared.Case.{Case}
+use Rattle.formats.specs.declared.Case.TheVariants.{Lower, Upper}
+use Rattle.formats.specs.Formats.{letter_from}
 use Rattle.radix.specs.Radix.{lower}
 use Rattle.reading.proofs.Place.{Misses}
 use Rattle.reading.proofs.Exponent.{Figure}
 use Rattle.digit_runs.specs.Runs.{Digits}
 use Rattle.digit_runs.proofs.Runs.{figure}
+
+-- the letter in front of the exponent stands behind the figures
+pub e_apart : (case : Case) → 57 < letter_from case 101
+e_apart Lower = lit< tt
+e_apart Upper = lit< tt
 
 -- digits are as many as their places
 pub digits-length : {α : ℕ → ℕ} {b : ℕ} {t : List ℕ} {from to : ℕ} (D : Digits α b t from to) → from ≤ length t → from + length D.digits ≡ to

@@ -2,9 +2,12 @@
 #![tactic(auto)]
 
 ghost use Rattle.std.specs.Prelude.{◌≤◌, ◌<◌, length};
+ghost use Rattle.formats.specs.Formats.{letter_from};
 ghost use Rattle.coefficients.specs.Coefficients.{FractionOf, CoefficientOf};
 
-use digit_runs::{Run, TENTH, digit, front, scan};
+use digit_runs::{DECIMAL, Run, front, scan};
+use formats::Case;
+use outcomes::Fault;
 
 // What stands behind the lead digit: with a point the fraction's digits, read behind the lead; without one nothing.
 fn fraction(text: &[u8], at: usize, lead: u64) -> Run
@@ -13,60 +16,55 @@ fn fraction(text: &[u8], at: usize, lead: u64) -> Run
 {
     if at < text.len() {
         if text[at] == b'.' {
-            return scan(text, at + 1, 10, TENTH, b'a', lead);
+            return scan(text, at + 1, DECIMAL, lead);
         }
     }
     Run {
         end: at,
-        value: lead,
-        over: false,
+        value: Some(lead),
     }
 }
 
-// The front of an exponent text, up to its letter, which stands at end. The size is that of the point and the fraction; the value that of all digits.
+// What stands at the front of an exponent text, up to its letter, which stands at end. The size is that of the point and the fraction;
+// the value that of all digits, unless it is over 64 bits.
 #[derive(Clone, Copy)]
-pub enum Coefficient {
-    Wrong(usize),
-    Number {
-        minus: bool,
-        lead: u64,
-        size: usize,
-        end: usize,
-        value: u64,
-        over: bool,
-    },
+pub struct Coefficient {
+    pub minus: bool,
+    pub lead: u64,
+    pub size: usize,
+    pub end: usize,
+    pub value: Option<u64>,
 }
 
-pub fn find_coefficient(text: &[u8], signed: bool, letter: u8) -> Coefficient
-    requires { (0 < length text.now) × (57 < letter) }
-    ensures { CoefficientOf signed letter text.now result }
+// The front of an exponent text whose letter has this case, or the place from which on it is of another shape.
+pub fn find_coefficient(text: &[u8], signed: bool, case: Case) -> Result<Coefficient, Fault>
+    requires { 0 < length text.now }
+    ensures { CoefficientOf signed (letter_from case 101) text.now result }
 {
     let start = front(text, signed);
     if text.len() <= start {
-        return Coefficient::Wrong(start);
+        return Err(Fault::Shape(start));
     }
-    let lead = digit(text[start], b'a');
-    if 10 <= lead {
-        return Coefficient::Wrong(start);
-    }
+    let Some(lead) = DECIMAL.digit(text[start]) else {
+        return Err(Fault::Shape(start));
+    };
     let at = start + 1;
     let run = fraction(text, at, lead);
     let end = run.end;
     if end == at + 1 {
-        return Coefficient::Wrong(end);
+        return Err(Fault::Shape(end));
     }
     if text.len() <= end {
-        return Coefficient::Wrong(end);
+        return Err(Fault::Shape(end));
     }
-    if text[end] == letter {
-        return Coefficient::Number {
+    if text[end] == case.letter(b'e') {
+        return Ok(Coefficient {
             minus: 0 < start,
             lead,
             size: end - at,
             end,
             value: run.value,
-            over: run.over,
-        };
+        });
     }
-    Coefficient::Wrong(end)
+    Err(Fault::Shape(end))
 }

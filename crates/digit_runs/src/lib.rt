@@ -1,90 +1,121 @@
 // A minus in front and runs of digits in any base to 16, read a byte at a time.
 #![tactic(auto)]
 
-ghost use Rattle.std.specs.Prelude.{◌≡◌, ◌-◌, ◌/◌, ◌^◌, ◌<◌, ◌≤◌, length};
+ghost use Rattle.std.specs.Prelude.{◌+◌, ◌*◌, ◌^◌, ◌<◌, ◌≤◌, length, SomeIff};
 ghost use Rattle.radix.specs.Radix.{digit_byte};
 ghost use Rattle.digit_runs.specs.Runs.{IsDigit, DigitRun, Scanned, Front};
-
-// The greatest number of 64 bits, over 10.
-pub const TENTH: u64 = 0x1999_9999_9999_9999;
 
 // A run of digits: where it ends, and the number that they stand for, unless it is over 64 bits.
 #[derive(Clone, Copy)]
 pub struct Run {
     pub end: usize,
-    pub value: u64,
-    pub over: bool,
+    pub value: Option<u64>,
 }
 
-// The digit that a byte is, with letters for 10 to 15; 16 or more where it is none.
-pub fn digit(byte: u8, letter: u8) -> u64
-    requires { (57 < letter) × (letter ≤ 97) }
-    ensures { IsDigit letter byte result }
-{
-    let figure = std::num::wrapping_sub_u8(byte, 48);
-    if figure < 10 {
-        return figure as u64;
+// What the digits of a base look like: the base, and the letter that the digit 10 has or would have.
+#[derive(Clone, Copy)]
+pub struct Numerals {
+    pub base: u64,
+    pub letter: u8,
+    ghost few: { (1 < base) × (base ≤ 16) },
+    ghost apart: { (57 < letter) × (letter ≤ 97) },
+}
+
+pub const BINARY: Numerals = Numerals {
+    base: 2,
+    letter: b'a',
+};
+
+pub const OCTAL: Numerals = Numerals {
+    base: 8,
+    letter: b'a',
+};
+
+pub const DECIMAL: Numerals = Numerals {
+    base: 10,
+    letter: b'a',
+};
+
+pub const LOWER_HEX: Numerals = Numerals {
+    base: 16,
+    letter: b'a',
+};
+
+pub const UPPER_HEX: Numerals = Numerals {
+    base: 16,
+    letter: b'A',
+};
+
+impl Numerals {
+    // The digit that a byte is, if it is one.
+    pub fn digit(self, byte: u8) -> Option<u64>
+        ensures { IsDigit (digit_byte self.letter) self.base byte result }
+    {
+        let figure = std::num::wrapping_sub_u8(byte, 48);
+        if figure < 10 {
+            return self.below(figure as u64);
+        }
+        let d = std::num::wrapping_sub_u8(byte, self.letter);
+        if d < 6 {
+            return self.below(10 + d as u64);
+        }
+        None
     }
-    let d = std::num::wrapping_sub_u8(byte, letter);
-    if d < 6 {
-        return 10 + d as u64;
+
+    // A digit, if it is one of the base.
+    fn below(self, d: u64) -> Option<u64>
+        ensures { SomeIff result (d < self.base) d }
+    {
+        if d < self.base { Some(d) } else { None }
     }
-    255
 }
 
 // Where the run of digits from a place on ends, whatever they stand for.
-fn skip(text: &[u8], from: usize, base: u64, letter: u8) -> usize
-    requires { (from ≤ length text.now) × (1 < base) × (base ≤ 16) × (57 < letter) × (letter ≤ 97) }
-    ensures { DigitRun (digit_byte letter) base text.now from result }
+fn skip(text: &[u8], from: usize, numerals: Numerals) -> usize
+    requires { from ≤ length text.now }
+    ensures { DigitRun (digit_byte numerals.letter) numerals.base text.now from result }
 {
-    let mut i = from;
-    while i < text.len() {
-        if base <= digit(text[i], letter) {
+    // By the index: where the run ends is the answer, and `skip` goes on from there.
+    for i in from..text.len() {
+        let Some(_) = numerals.digit(text[i]) else {
             return i;
-        }
-        i += 1;
+        };
     }
-    i
+    text.len()
 }
 
-// The run of digits from a place on, read behind what was read before. top is the greatest number that a digit more may follow: no division here.
-pub fn scan(text: &[u8], from: usize, base: u64, top: u64, letter: u8, before: u64) -> Run
-    requires { (from ≤ length text.now) × (1 < base) × (base ≤ 16) × (57 < letter) × (letter ≤ 97) × (top ≡ (2 ^ 64 - 1) / base) }
-    ensures { Scanned (digit_byte letter) base before text.now from result }
+// The number with a digit behind it, unless it is over 64 bits. LLVM makes no division of this.
+fn appended(value: u64, base: u64, d: u64) -> Option<u64>
+    ensures { SomeIff result (value * base + d < 2 ^ 64) (value * base + d) }
+{
+    value.checked_mul(base)?.checked_add(d)
+}
+
+// The run of digits from a place on, read behind what was read before.
+pub fn scan(text: &[u8], from: usize, numerals: Numerals, before: u64) -> Run
+    requires { from ≤ length text.now }
+    ensures { Scanned (digit_byte numerals.letter) numerals.base before text.now from result }
 {
     let mut value = before;
-    let mut i = from;
-    while i < text.len() {
-        let d = digit(text[i], letter);
-        if base <= d {
+    // By the index, as in `skip`.
+    for i in from..text.len() {
+        let Some(d) = numerals.digit(text[i]) else {
             return Run {
                 end: i,
-                value,
-                over: false,
+                value: Some(value),
             };
-        }
-        if top < value {
+        };
+        let Some(more) = appended(value, numerals.base, d) else {
             return Run {
-                end: skip(text, i + 1, base, letter),
-                value: 0,
-                over: true,
+                end: skip(text, i + 1, numerals),
+                value: None,
             };
-        }
-        let shifted = value * base;
-        if 0xffff_ffff_ffff_ffff - shifted < d {
-            return Run {
-                end: skip(text, i + 1, base, letter),
-                value: 0,
-                over: true,
-            };
-        }
-        value = shifted + d;
-        i += 1;
+        };
+        value = more;
     }
     Run {
-        end: i,
-        value,
-        over: false,
+        end: text.len(),
+        value: Some(value),
     }
 }
 

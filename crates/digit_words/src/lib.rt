@@ -6,9 +6,6 @@ ghost use Rattle.digits.specs.Digits.{value, Below};
 ghost use Rattle.digits.specs.Text.{ascii};
 ghost use Rattle.words.specs.Bytes.{bytes_of};
 
-// No number: the greatest of 64 bits.
-pub const NONE: u64 = 0xffff_ffff_ffff_ffff;
-
 // The bytes of u less 48 each: their digits, where all are digits.
 pub fn figures(u: u64) -> u64
     ensures { Below 10 (bytes_of 8 result) → bytes_of 8 u ≡ map ascii (bytes_of 8 result) }
@@ -17,6 +14,7 @@ pub fn figures(u: u64) -> u64
 }
 
 // 0 where each byte of w is a digit: with 6 more a byte from 10 to 15 reaches into its upper half.
+// A number and no bool: three of them are joined and tested once.
 pub fn faults(w: u64) -> u64
     ensures { result ≡ 0 → Below 10 (bytes_of 8 w) }
 {
@@ -35,7 +33,7 @@ pub fn number(base: u64, w: u64) -> u64
     (q % 4294967296) * (square * square) + (q >> 32)
 }
 
-// The number of the first digits, without the last k.
+// The number of the first digits, without the last k. It and number_around are two, since each shifts other digits out: nothing but `number` is common.
 pub fn number_before(w: u64, k: usize) -> u64
     requires { (Below 10 (bytes_of 8 w)) × (k < 8) }
     ensures { (result ≡ value 10 (take (8 - k) (bytes_of 8 w))) × (result < 100000000) }

@@ -1,12 +1,14 @@
 -- How many decimal digits a number has by how many bits: 1233 / 4096 of them, or one more.
 -- Assumes nothing.
-use mathlib.Core.Path.{◌≡◌, refl, ap, ◌∙◌}
+use mathlib.Core.Path.{◌≡◌, refl, sym, ap, ◌∙◌}
 use mathlib.Core.Bool.{Bool, true, false, cond}
-use Prim.Native.Nat.{ℕ, zero, suc, ◌+◌, ◌-◌, ◌*◌, ◌/◌, ◌^◌, ◌≤◌, ◌<◌}
-use native.Mathlib.Nat.{one-le-pow, pow-suc, pow-zero, le_trans, le_antisymm, not-suc-le-zero, lt_of_lt_of_le, zero-lt-suc}
+use Prim.Native.Nat.{ℕ, zero, suc, ◌+◌, ◌-◌, ◌*◌, ◌/◌, ◌%◌, ◌^◌, ◌≤◌, ◌<◌}
+use native.Mathlib.Nat.{mul-one, one-le-pow, pow-suc, pow-zero, le_trans, le_antisymm, not-suc-le-zero, lt_of_lt_of_le, zero-lt-suc}
 use native.Mathlib.Decide.{dec_le}
 use native.Mathlib.Omega.{arith}
 use borrow.Author.Tests.{leb-true}
+use Rattle.std.proofs.lemmas.Nat.{or_shifted, or_block}
+use lib.Bits.{bit_or}
 use lib.Count.{count_leading_zeros, leading_top}
 use lib.Dec.{leb, lit<}
 use lib.ListN.{length}
@@ -48,9 +50,24 @@ high : (j : ℕ) → j < 64 → 2 ^ suc j ≤ 10 ^ suc (worth (suc j))
 unfolding holds
 high j h = leb-true (2 ^ suc j) (10 ^ suc (worth (suc j))) (holds_at 64 (λ (i : ℕ). leb (2 ^ suc i) (10 ^ suc (worth (suc i)))) j refl h)
 
+-- the number with its lowest bit set
+nothing : (x : ℕ) → bit_or x 0 ≡ x
+nothing x = ap (λ (y : ℕ). bit_or y 0) (sym (mul-one x)) ∙ or_shifted x 0 0 (lit< tt) ∙ omega arith
+
+lowest : (r : ℕ) → r < 2 → bit_or r 1 ≡ 1
+lowest zero h = refl
+lowest (suc zero) h = refl
+lowest (suc (suc r)) h = absurd (omega arith)
+
+or-one : (n : ℕ) → bit_or n 1 ≡ n / 2 * 2 + 1
+or-one n =
+    let e : n ≡ n / 2 * 2 + n % 2 = omega arith in
+    let h : n % 2 < 2 = omega arith in
+    ap (λ (x : ℕ). bit_or x 1) e ∙ or_block 1 (n / 2) 0 (n % 2) 1 h (lit< tt) ∙ rw (nothing (n / 2), lowest (n % 2) h)
+
 -- an odd number is no power of an even base but 1: where n is even, n + 1 has as many digits
-pub odd-length : (c : ℕ) → 1 < c * 2 → (n : ℕ) → length (digits (c * 2) (n / 2 * 2 + 1)) ≡ length (digits (c * 2) n)
-odd-length c big n = le_antisymm (go (length (digits (c * 2) n)) refl) (length-mono (c * 2) big (omega arith))
+odd_alike : (c : ℕ) → 1 < c * 2 → (n : ℕ) → length (digits (c * 2) (n / 2 * 2 + 1)) ≡ length (digits (c * 2) n)
+odd_alike c big n = le_antisymm (go (length (digits (c * 2) n)) refl) (length-mono (c * 2) big (omega arith))
   where
     go : (k : ℕ) → length (digits (c * 2) n) ≡ k → length (digits (c * 2) (n / 2 * 2 + 1)) ≤ length (digits (c * 2) n)
     go zero e = absurd (let s = digits-some (c * 2) big n in omega arith)
@@ -59,8 +76,14 @@ odd-length c big n = le_antisymm (go (length (digits (c * 2) n)) refl) (length-m
         let p = pow-suc (c * 2) k in
         rw e (digits-length-le (c * 2) big (suc k) (n / 2 * 2 + 1) (zero-lt-suc k) (omega arith))
 
-pub odd-fits : (n : ℕ) → n < 2 ^ 64 → n / 2 * 2 + 1 < 2 ^ 64
-odd-fits n h = omega arith
+pub odd-length : (c : ℕ) → 1 < c * 2 → (n : ℕ) → length (digits (c * 2) (bit_or n 1)) ≡ length (digits (c * 2) n)
+odd-length c big n = rw (or-one n) (odd_alike c big n)
+
+pub odd-some : (n : ℕ) → 0 < bit_or n 1
+odd-some n = omega (arith, or-one n)
+
+pub odd-fits : (n : ℕ) → n < 2 ^ 64 → bit_or n 1 < 2 ^ 64
+odd-fits n h = omega (arith, or-one n)
 
 -- the highest of at most 64 bits of x is bit j
 module _ (x j : ℕ) (h : j < 64) (l : 2 ^ j ≤ x) (u : x < 2 ^ suc j) where

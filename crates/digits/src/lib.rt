@@ -58,8 +58,8 @@ pub fn power(k: usize) -> u64
 pub fn digit_count(n: u64) -> usize
     ensures { result ≡ length (decimal n) }
 {
-    let x = n / 2 * 2 + 1;
-    let t = (((64 - u64::leading_zeros(x)) * 1233) >> 12) as usize;
+    let x = n | 1;
+    let t = (((64 - x.leading_zeros()) * 1233) >> 12) as usize;
     if x < power(t) {
         return t;
     }
@@ -70,5 +70,5 @@ pub fn digit_count(n: u64) -> usize
 pub fn bit_length(x: u64) -> u32
     ensures { result ≡ length (digits 2 x) }
 {
-    64 - u64::leading_zeros(x / 2 * 2 + 1)
+    64 - (x | 1).leading_zeros()
 }

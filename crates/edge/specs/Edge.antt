@@ -1,19 +1,15 @@
 -- The C edge (document 01, "The C edge"): a nonzero number sets a flag, signedness or "precision given"; an answer is two numbers.
-use Rattle.std.specs.Prelude.{Bool, not, cond, List, ◌≡◌, ℕ, eqb}
+use Rattle.std.specs.Prelude.{Option, None, Some, Bool, not, cond, List, ◌≡◌, ℕ, eqb}
 use Rattle.reader.specs.Answers as reader
-use Rattle.outcomes.specs.Outcomes.{number_of, value_of}
-use Rattle.outcomes.specs.declared.Outcome.{Outcome}
-use Rattle.scaling.specs.declared.Precision.{Precision}
-use Rattle.scaling.specs.declared.Precision.TheVariants.{None, Digits}
-use Rattle.writing.specs.Promise.{number, value, after}
+use Rattle.outcomes.specs.Outcomes.{Outcome, number_of, value_of}
+use Rattle.writing.specs.Promise.{Written, number, value, after}
 use Rattle.writing.specs.declared.Options.{Options}
-use Rattle.writing.specs.declared.Written.{Written}
 
 abbrev pub set : ℕ → Bool
 set n = not (eqb n 0)
 
-abbrev pub given_precision : ℕ → ℕ → Precision
-given_precision given digits = cond (set given) (Digits digits) None
+abbrev pub given_precision : ℕ → ℕ → Option ℕ
+given_precision given digits = cond (set given) (Some digits) None
 
 abbrev pub options_from : ℕ → ℕ → ℕ → ℕ → ℕ → ℕ → ℕ → ℕ → Options
 options_from plus alternate zeros fill align width given digits =

@@ -20,6 +20,7 @@ pub fn coef_length(coef_prec: usize, more_prec: usize) -> usize
 }
 
 // The lead digit, the point and the fraction from the index at on: the digits one place to the right, and the lead moved in front of the point. Their length.
+// Not a Scaled: this crate does not stand on scaling.
 pub fn encode_coef(
     coef: u64,
     coef_prec: usize,

@@ -1,7 +1,7 @@
 -- The three parts over the scratch bytes are the text: the coefficient as it stands there, zeros, and the letter and the exponent as they stand behind it.
 -- Assumes nothing.
 use mathlib.Core.List.{List, ◌∷◌, ◌++◌, append_assoc, append-nil}
-use mathlib.Core.Option.{Option}
+use Rattle.std.specs.Prelude.{Option}
 use mathlib.Core.Path.{◌≡◌, refl, sym, ap, ◌∙◌}
 use Prim.Native.Nat.{ℕ, zero, suc, ◌+◌, ◌≤◌}
 use native.Mathlib.Nat.{zero-add}
@@ -16,6 +16,7 @@ use Rattle.digits.proofs.Text.{length-last_text, text-most}
 use Rattle.formatted.specs.Three.{parts_of}
 use Rattle.formatted.specs.declared.Formatted.{Formatted}
 use Rattle.parts.specs.Parts.{sign_text, part_text, parts_text, text_of, leaves_source, Inside, part_length, parts_length, true_length, zero_part, copy_part}
+use Rattle.parts.specs.declared.Sign.TheVariants as sign
 use Rattle.parts.proofs.Text.{length-text}
 use Rattle.scaling.specs.Coefficient.{Scales}
 use Rattle.scaling.specs.declared.Scaled.{Scaled}
@@ -50,7 +51,7 @@ exp-most letter k h = let l = text-most ascii 10 T.ten 2 k (omega arith) (omega 
 
 -- a run of the source, z zeros and the run behind it
 abbrev pub three : ℕ → ℕ → ℕ → Formatted
-three a z b = record { sign = 0; first = copy_part 0 a; second = zero_part z; third = copy_part a b }
+three a z b = record { sign = sign.None; first = copy_part 0 a; second = zero_part z; third = copy_part a b }
 
 module _ (s t r : List ℕ) (z : ℕ) where
   three-inside : Inside (length ((s ++ t) ++ r)) (parts_of (three (length s) z (length t)))
@@ -60,7 +61,7 @@ module _ (s t r : List ℕ) (z : ℕ) where
       let k = length-append s t in
       (le-ltb (length ((s ++ t) ++ r)) (0 + length s) (omega arith), (refl, (le-ltb (length ((s ++ t) ++ r)) (length s + length t) (omega arith), tt)))
 
-  three-text : text_of 0 ((s ++ t) ++ r) (parts_of (three (length s) z (length t))) ≡ s ++ (replicate z 48 ++ t)
+  three-text : text_of sign.None ((s ++ t) ++ r) (parts_of (three (length s) z (length t))) ≡ s ++ (replicate z 48 ++ t)
   unfolding text_of sign_text parts_text part_text
   three-text =
       let a : take (length s) ((s ++ t) ++ r) ≡ s = rw append_assoc (take_at s (t ++ r) (length s) refl) in
@@ -68,7 +69,7 @@ module _ (s t r : List ℕ) (z : ℕ) where
       let b : take (length t) (t ++ r) ≡ t = take_at t r (length t) refl in
       rw (a, d, b, append-nil)
 
-three-length : (a z b : ℕ) → true_length 0 (parts_of (three a z b)) ≡ a + (z + b)
+three-length : (a z b : ℕ) → true_length sign.None (parts_of (three a z b)) ≡ a + (z + b)
 unfolding true_length sign_text parts_length part_length
 three-length a z b = omega arith
 
@@ -120,8 +121,8 @@ module _ (letter : ℕ) (s : Scaled) where
         let r : List ℕ = drop (length (coef ++ expo)) l in
         let e : src ≡ (coef ++ expo) ++ r = e₂ ∙ rw (e₁, zero-add a, i, j, ended-whole l coef) (begun-behind l coef expo) in
         let I : Inside (length src) (parts_of (three a s.more_prec b)) = rw (e, i, j) (three-inside coef expo r s.more_prec) in
-        let X : text_of 0 src (parts_of (three a s.more_prec b)) ≡ exp_text letter p n = rw (e, i, j) (three-text coef expo r s.more_prec ∙ text-is) in
-        let L = sym (length-text 0 src (parts_of (three a s.more_prec b)) I) ∙ ap length X in
+        let X : text_of sign.None src (parts_of (three a s.more_prec b)) ≡ exp_text letter p n = rw (e, i, j) (three-text coef expo r s.more_prec ∙ text-is) in
+        let L = sym (length-text sign.None src (parts_of (three a s.more_prec b)) I) ∙ ap length X in
         let t = coef-length s.coef s.coef_prec s.more_prec in
         let u = exp-most letter s.exp h in
         record {

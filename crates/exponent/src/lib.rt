@@ -4,22 +4,14 @@
 
 ghost use Rattle.std.specs.Prelude.{◌≡◌, ℕ, ◌+◌, ◌<◌, ◌≤◌, length};
 ghost use Rattle.buffer.specs.AtEnd.{ended};
-ghost use Rattle.scaling.specs.Coefficient.{precision_of};
 ghost use Rattle.exponent.specs.Coefficient.{Sized, scaled_text};
 ghost use Rattle.exponent.specs.Form.{Answers};
 
 use formatted::Formatted;
-use parts::Part;
-use scaling::{Precision, Scaled};
+use parts::{Part, Sign};
+use scaling::Scaled;
 
-// The text as parts of the scratch bytes, or that its exponent has more than two digits, which no 64-bit number's has.
-#[derive(Clone, Copy)]
-pub enum Shown {
-    Parts(Formatted),
-    ExponentRefused,
-}
-
-// How long the text is.
+// How long the text is. `Sized` is asked and no invariant of Scaled, of which `formatted` tests the exponent.
 pub fn size(scaled: Scaled) -> usize
     requires { Sized scaled }
     ensures { (result < 131072) × ((letter : ℕ) → result ≡ length (scaled_text letter scaled)) }
@@ -41,13 +33,19 @@ pub fn write_at(scaled: Scaled, letter: u8, buf: &mut [u8], at: usize)
 }
 
 // The exponent form of the magnitude n: in scratch the coefficient, and right behind it the letter and the exponent; as parts, with zeros between the two.
+// None where the exponent has more than two digits, which no 64-bit number's has.
 // 24 bytes hold 20 digits, a point, a letter and two digits.
-pub fn formatted(n: u64, letter: u8, precision: Precision, scratch: &mut [u8; 24]) -> Shown
-    ensures { Answers letter (precision_of precision) n scratch.new result }
+pub fn formatted(
+    n: u64,
+    letter: u8,
+    precision: Option<u16>,
+    scratch: &mut [u8; 24],
+) -> Option<Formatted>
+    ensures { Answers letter precision n scratch.new result }
 {
     let scaled = scaling::scale(n, precision);
     if 99 < scaled.exp {
-        return Shown::ExponentRefused;
+        return None;
     }
     let coef_len = encoding::encode_coef(
         scaled.coef,
@@ -57,8 +55,8 @@ pub fn formatted(n: u64, letter: u8, precision: Precision, scratch: &mut [u8; 24
         0,
     );
     let exp_len = encoding::encode_exp(letter, scaled.exp, scratch, coef_len);
-    Shown::Parts(Formatted {
-        sign: 0,
+    Some(Formatted {
+        sign: Sign::None,
         first: Part::copy(0, coef_len as u64),
         second: Part::zero(scaled.more_prec as u64),
         third: Part::copy(coef_len as u64, exp_len as u64),

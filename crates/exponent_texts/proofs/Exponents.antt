@@ -1,6 +1,7 @@
 -- Of an exponent text: the exponent's one or two digits, the rules of writing by the code's tests, and the product with a power of ten.
 -- Assumes nothing.
-use mathlib.Core.Bool.{true, false, false≢true, true≢false}
+use Rattle.std.specs.Prelude.{Some, None}
+use mathlib.Core.Bool.{false, false≢true}
 use mathlib.Core.List.{List}
 use mathlib.Core.Path.{◌≡◌, sym, ap, ◌∙◌}
 use Prim.Native.Nat.{ℕ, ◌+◌, ◌-◌, ◌*◌, ◌^◌, ◌≤◌, ◌<◌}
@@ -14,13 +15,14 @@ use Rattle.digits.proofs.Last.{value-lt}
 use Rattle.radix.specs.Radix.{lower}
 use Rattle.scientific.proofs.Tens as T
 use Rattle.coefficients.proofs.Places.{digits-length}
-use Rattle.exponent_texts.specs.Exponents.{AtMostTwo, Rules, Tells, Product}
+use Rattle.digit_runs.specs.Runs.{Held}
+use Rattle.exponent_texts.specs.Exponents.{DigitAt, AtMostTwo, Rules, Tells}
 use Rattle.exponent_texts.specs.declared.Short.{Short}
 use Rattle.digit_runs.proofs.Runs.{Sofar}
 
 -- ---- the exponent's digits
 
-pub two_at : {t : List ℕ} {from i v w : ℕ} → Sofar lower 10 0 t from i w → v ≡ w → from ≤ length t → i ≤ from + 2 → (i < from + 2 → i < length t → (d : ℕ) → d < 10 → lower d ≡ get_or t i 0 → ⊥)
+pub two_at : {t : List ℕ} {from i v w : ℕ} → Sofar lower 10 0 t from i w → v ≡ w → from ≤ length t → i ≤ from + 2 → (i < from + 2 → DigitAt t i None)
     → AtMostTwo t from (record { end = i; value = v })
 unfolding value
 two_at S e h n f =
@@ -48,15 +50,12 @@ not-told f = record { yes = λ e. absurd (false≢true e); no = λ e. f }
 
 -- ---- digits with zeros behind them
 
-pub product-zero : (n k : ℕ) → n ≡ 0 → Product n k (record { value = 0; over = false })
-product-zero n k e = record { held = λ o. sym (ap (λ (x : ℕ). x * 10 ^ k) e ∙ zero-mul (10 ^ k)); beyond = λ o. absurd (false≢true o) }
-
-pub product-held : (n k v : ℕ) → v ≡ n * 10 ^ k → Product n k (record { value = v; over = false })
-product-held n k v e = record { held = λ o. e; beyond = λ o. absurd (false≢true o) }
-
-pub product-over : (n k : ℕ) → 2 ^ 64 ≤ n * 10 ^ k → Product n k (record { value = 0; over = true })
-product-over n k h = record { held = λ o. absurd (true≢false o); beyond = λ o. h }
+pub product-zero : (n k : ℕ) → n ≡ 0 → Held (Some 0) (n * 10 ^ k)
+product-zero n k e = let z : 0 ≡ n * 10 ^ k = sym (ap (λ (x : ℕ). x * 10 ^ k) e ∙ zero-mul (10 ^ k)) in (omega arith, z)
 
 -- 10 ^ 20 is over 64 bits
-pub large : (n k : ℕ) → 0 < n → 19 < k → 2 ^ 64 ≤ n * 10 ^ k
+large : (n k : ℕ) → 0 < n → 19 < k → 2 ^ 64 ≤ n * 10 ^ k
 large n k p h = le_trans (le_trans (lit≤ tt) (T.powers {i = 20} {j = k} h)) (let q = mul-le-mul {n₁ = 1} {m₁ = 10 ^ k} {n₂ = n} {m₂ = 10 ^ k} p (omega arith) in omega arith)
+
+pub product-over : (n k : ℕ) → 0 < n → 19 < k → Held None (n * 10 ^ k)
+product-over n k p h = λ f. omega (arith, large n k p h)

@@ -1,6 +1,7 @@
 -- A whole exponent text, from its front and its exponent: its place, its parts, the rules of writing, and its magnitude.
 -- Assumes nothing.
-use mathlib.Core.Bool.{Bool, true, false, true≢false}
+use Rattle.std.specs.Prelude.{Some, None}
+use mathlib.Core.Bool.{Bool, true, false}
 use mathlib.Core.List.{List, [], ◌∷◌, ◌++◌, map, append_assoc, append-nil, map-append}
 use mathlib.Core.Path.{◌≡◌, refl, sym, ap, ap₂, ◌∙◌, subst}
 use Prim.Native.Nat.{ℕ, zero, suc, ◌+◌, ◌-◌, ◌*◌, ◌^◌, ◌≤◌, ◌<◌}
@@ -17,9 +18,11 @@ use Rattle.reading.specs.Form.{Reads, Place}
 use Rattle.reading.specs.Formats.{exponent_shape}
 use Rattle.reading.proofs.Exponent.{place_none, place-tail}
 use Rattle.coefficients.specs.Coefficients.{IsCoefficient}
-use Rattle.exponent_texts.specs.Exponents.{AtMostTwo, Rules, Product, IsExponent}
+use Rattle.coefficients.specs.declared.Coefficient.{Coefficient}
+use Rattle.digit_runs.specs.Runs.{Held}
+use Rattle.outcomes.specs.Found.{IsNumber, IsBeyond}
+use Rattle.exponent_texts.specs.Exponents.{AtMostTwo, Rules, exponents}
 use Rattle.exponent_texts.specs.declared.Short.{Short}
-use Rattle.exponent_texts.specs.declared.Held.{Held}
 use Rattle.whole_texts.proofs.Texts.{empty, first, value-lead}
 use Rattle.digit_runs.proofs.Runs.{figures}
 use Rattle.coefficients.proofs.Places.{digits-length, no-figure, ends_at}
@@ -52,52 +55,52 @@ snoc : (x : ℕ) (xs : List ℕ) → (ds : List ℕ) × (f : ℕ) × (x ∷ xs �
 snoc x [] = ([], x, refl)
 snoc x (y ∷ xs) = let r = snoc y xs in (x ∷ r.0, r.1, ap (λ (k : List ℕ). x ∷ k) r.2)
 
-module _ (sgn : Bool) (letter : ℕ) (l : 57 < letter) (t : List ℕ) {m : Bool} {lead size end v : ℕ} {over : Bool} (C : IsCoefficient sgn letter t m lead size end v over) (s : Short) (A : AtMostTwo t (end + 1) s) where
+module _ (sgn : Bool) (letter : ℕ) (l : 57 < letter) (t : List ℕ) (c : Coefficient) (C : IsCoefficient sgn letter t c) (s : Short) (A : AtMostTwo t (c.end + 1) s) where
   abbrev es : List ℕ
   es = A.run.digits
 
   abbrev fs : List ℕ
   fs = C.frac
 
-  tail-text : drop (end + 1) t ≡ map ascii es ++ drop s.end t
+  tail-text : drop (c.end + 1) t ≡ map ascii es ++ drop s.end t
   tail-text = A.run.text ∙ ap (λ (k : List ℕ). k ++ drop s.end t) (figures es A.run.each)
 
-  whole-text : t ≡ (sign m ++ (ascii lead ∷ fraction fs ++ letter ∷ map ascii es)) ++ drop s.end t
-  whole-text = C.text ∙ ap (λ (k : List ℕ). sign m ++ (ascii lead ∷ fraction fs ++ letter ∷ k)) tail-text ∙ simp append_assoc
+  whole-text : t ≡ (sign c.minus ++ (ascii c.lead ∷ fraction fs ++ letter ∷ map ascii es)) ++ drop s.end t
+  whole-text = C.text ∙ ap (λ (k : List ℕ). sign c.minus ++ (ascii c.lead ∷ fraction fs ++ letter ∷ k)) tail-text ∙ simp append_assoc
 
-  whole-ends : length (sign m ++ (ascii lead ∷ fraction fs ++ letter ∷ map ascii es)) ≡ s.end
-  whole-ends = ends_at (sign m ++ (ascii lead ∷ fraction fs ++ letter ∷ map ascii es)) t s.end A.run.inside whole-text
+  whole-ends : length (sign c.minus ++ (ascii c.lead ∷ fraction fs ++ letter ∷ map ascii es)) ≡ s.end
+  whole-ends = ends_at (sign c.minus ++ (ascii c.lead ∷ fraction fs ++ letter ∷ map ascii es)) t s.end A.run.inside whole-text
 
-  tail-ends : end + 1 + length es ≡ s.end
+  tail-ends : c.end + 1 + length es ≡ s.end
   tail-ends = digits-length A.run (omega (arith, C.inside))
 
   -- a byte that is no digit, or a third one
   pub wrong-tail : s.end < length t → Place (exponent_shape sgn letter) t s.end
   wrong-tail h =
-      let c = get_or t s.end 0 in
+      let x = get_or t s.end 0 in
       let r = drop (suc s.end) t in
-      let w = sign m ++ (ascii lead ∷ fraction fs ++ letter ∷ map ascii es) in
-      let e : w ++ c ∷ r ≡ t = sym (whole-text ∙ ap (λ (k : List ℕ). w ++ k) (drop-cons t s.end 0 h)) in
-      let P = place-tail sgn letter l m C.allowed lead fs es c r C.digit C.each A.run.each A.few (λ k. no-figure t s.end (A.stop k h)) in
-      subst (λ (k : List ℕ). Place (exponent_shape sgn letter) k s.end) e (subst (Place (exponent_shape sgn letter) (w ++ c ∷ r)) whole-ends P)
+      let w = sign c.minus ++ (ascii c.lead ∷ fraction fs ++ letter ∷ map ascii es) in
+      let e : w ++ x ∷ r ≡ t = sym (whole-text ∙ ap (λ (k : List ℕ). w ++ k) (drop-cons t s.end 0 h)) in
+      let P = place-tail sgn letter l c.minus C.allowed c.lead fs es x r C.digit C.each A.run.each A.few (λ k. no-figure t s.end (A.stop k h)) in
+      subst (λ (k : List ℕ). Place (exponent_shape sgn letter) k s.end) e (subst (Place (exponent_shape sgn letter) (w ++ x ∷ r)) whole-ends P)
 
-  closed : length t ≤ s.end → t ≡ sign m ++ (ascii lead ∷ fraction fs ++ letter ∷ map ascii es)
+  closed : length t ≤ s.end → t ≡ sign c.minus ++ (ascii c.lead ∷ fraction fs ++ letter ∷ map ascii es)
   closed h =
-      let w = sign m ++ (ascii lead ∷ fraction fs ++ letter ∷ map ascii es) in
+      let w = sign c.minus ++ (ascii c.lead ∷ fraction fs ++ letter ∷ map ascii es) in
       whole-text ∙ ap (λ (k : List ℕ). w ++ k) (drop_of_length-le t h) ∙ append-nil w
 
   -- no digit behind the letter
-  pub wrong-none : length t ≤ s.end → s.end ≤ end + 1 → Place (exponent_shape sgn letter) t s.end
+  pub wrong-none : length t ≤ s.end → s.end ≤ c.end + 1 → Place (exponent_shape sgn letter) t s.end
   wrong-none h k =
       let z : es ≡ [] = empty es (omega (arith, tail-ends)) in
-      let w = sign m ++ (ascii lead ∷ fraction fs ++ letter ∷ []) in
-      let e : w ≡ t = sym (closed h ∙ ap (λ (k : List ℕ). sign m ++ (ascii lead ∷ fraction fs ++ letter ∷ map ascii k)) z) in
-      let n : length w ≡ s.end = ap (λ (k : List ℕ). length (sign m ++ (ascii lead ∷ fraction fs ++ letter ∷ map ascii k))) (sym z) ∙ whole-ends in
-      subst (λ (k : List ℕ). Place (exponent_shape sgn letter) k s.end) e (subst (Place (exponent_shape sgn letter) w) n (place_none sgn letter l m C.allowed lead fs C.digit C.each))
+      let w = sign c.minus ++ (ascii c.lead ∷ fraction fs ++ letter ∷ []) in
+      let e : w ≡ t = sym (closed h ∙ ap (λ (k : List ℕ). sign c.minus ++ (ascii c.lead ∷ fraction fs ++ letter ∷ map ascii k)) z) in
+      let n : length w ≡ s.end = ap (λ (k : List ℕ). length (sign c.minus ++ (ascii c.lead ∷ fraction fs ++ letter ∷ map ascii k))) (sym z) ∙ whole-ends in
+      subst (λ (k : List ℕ). Place (exponent_shape sgn letter) k s.end) e (subst (Place (exponent_shape sgn letter) w) n (place_none sgn letter l c.minus C.allowed c.lead fs C.digit C.each))
 
-  module _ (all : length t ≤ s.end) (some : end + 1 < s.end) where
+  module _ (all : length t ≤ s.end) (some : c.end + 1 < s.end) where
     abbrev pub parts : Parts
-    parts = record { minus = m; lead = lead; frac = fs; expo = es }
+    parts = record { minus = c.minus; lead = c.lead; frac = fs; expo = es }
 
     pub found-reads : Reads (exponent_shape sgn letter) t parts
     unfolding written
@@ -106,45 +109,45 @@ module _ (sgn : Bool) (letter : ℕ) (l : 57 < letter) (t : List ℕ) {m : Bool}
       text = closed all;
     }
 
-    total : length t ≡ length (sign m) + size + 2 + length es
-    total = omega (arith, A.run.inside, tail-ends, C.front, length-append (sign m) (ascii lead ∷ fraction fs), C.fits)
+    total : length t ≡ length (sign c.minus) + c.size + 2 + length es
+    total = omega (arith, A.run.inside, tail-ends, C.front, length-append (sign c.minus) (ascii c.lead ∷ fraction fs), C.fits)
 
     -- what `is_canonical` asks
-    pub size-inside : (size ≤ end) × (end + 1 < length t) × (s.value < 100)
-    size-inside = (omega (arith, C.front, length-append (sign m) (ascii lead ∷ fraction fs), C.fits), omega (arith, A.run.inside), two-small A)
+    pub size-inside : (c.size ≤ c.end) × (c.end + 1 < length t) × (s.value < 100)
+    size-inside = (omega (arith, C.front, length-append (sign c.minus) (ascii c.lead ∷ fraction fs), C.fits), omega (arith, A.run.inside), two-small A)
 
     -- the byte in front of the letter, and that behind it
-    last_byte : (ds : List ℕ) (f : ℕ) → fs ≡ ds ++ (f ∷ []) → get_or t (end - 1) 0 ≡ ascii f
+    last_byte : (ds : List ℕ) (f : ℕ) → fs ≡ ds ++ (f ∷ []) → get_or t (c.end - 1) 0 ≡ ascii f
     last_byte ds f e =
-        let a = sign m ++ (ascii lead ∷ 46 ∷ map ascii ds) in
-        let r = letter ∷ drop (end + 1) t in
+        let a = sign c.minus ++ (ascii c.lead ∷ 46 ∷ map ascii ds) in
+        let r = letter ∷ drop (c.end + 1) t in
         let q : fraction fs ≡ (46 ∷ map ascii ds) ++ (ascii f ∷ []) = ap fraction e ∙ fraction-snoc ds f in
-        let w : t ≡ a ++ ascii f ∷ r = C.text ∙ ap (λ (k : List ℕ). sign m ++ (ascii lead ∷ k ++ r)) q ∙ simp append_assoc in
-        let n : length a ≡ end - 1 = omega (arith, C.front, length-append (sign m) (ascii lead ∷ fraction fs), length-append (sign m) (ascii lead ∷ 46 ∷ map ascii ds), ap length q, length-append (46 ∷ map ascii ds) (ascii f ∷ [])) in
-        ap (λ (k : List ℕ). get_or k (end - 1) 0) w ∙ get_or_at a (ascii f) r 0 (end - 1) n
+        let w : t ≡ a ++ ascii f ∷ r = C.text ∙ ap (λ (k : List ℕ). sign c.minus ++ (ascii c.lead ∷ k ++ r)) q ∙ simp append_assoc in
+        let n : length a ≡ c.end - 1 = omega (arith, C.front, length-append (sign c.minus) (ascii c.lead ∷ fraction fs), length-append (sign c.minus) (ascii c.lead ∷ 46 ∷ map ascii ds), ap length q, length-append (46 ∷ map ascii ds) (ascii f ∷ [])) in
+        ap (λ (k : List ℕ). get_or k (c.end - 1) 0) w ∙ get_or_at a (ascii f) r 0 (c.end - 1) n
 
-    next-byte : (e : ℕ) (k : List ℕ) → es ≡ e ∷ k → get_or t (end + 1) 0 ≡ ascii e
-    next-byte e k q = first t (end + 1) ∙ ap (λ (u : List ℕ). get_or u 0 0) tail-text ∙ ap (λ (u : List ℕ). get_or (map ascii u ++ drop s.end t) 0 0) q
+    next-byte : (e : ℕ) (k : List ℕ) → es ≡ e ∷ k → get_or t (c.end + 1) 0 ≡ ascii e
+    next-byte e k q = first t (c.end + 1) ∙ ap (λ (u : List ℕ). get_or u 0 0) tail-text ∙ ap (λ (u : List ℕ). get_or (map ascii u ++ drop s.end t) 0 0) q
 
-    pub rules-canonical : Rules t lead size end s.value → CanonicalParts parts
+    pub rules-canonical : Rules t c.lead c.size c.end s.value → CanonicalParts parts
     rules-canonical R = record {
-      minus = λ o. minus lead refl o;
+      minus = λ o. minus c.lead refl o;
       lead = lead_zero;
       spare = λ ds e. R.spare (omega (arith, C.fits, fraction-some fs, ap length e, length-append ds (0 ∷ []))) (last_byte ds 0 e);
       expo = λ d e. R.two (omega (arith, tail-ends, A.run.inside, ap length e)) (next-byte 0 (d ∷ []) e);
       enough = omega (arith, R.enough, A.is, C.fits, fraction-some fs);
     }
       where
-        minus : (d : ℕ) → lead ≡ d → m ≡ true → value 10 (lead ∷ fs) ≡ 0 → ⊥
-        minus zero e o z = let n : length (sign m) ≡ 1 = ap (λ (k : Bool). length (sign k)) o in omega (arith, (R.zero e).0, total, tail-ends)
+        minus : (d : ℕ) → c.lead ≡ d → c.minus ≡ true → value 10 (c.lead ∷ fs) ≡ 0 → ⊥
+        minus zero e o z = let n : length (sign c.minus) ≡ 1 = ap (λ (k : Bool). length (sign k)) o in omega (arith, (R.zero e).0, total, tail-ends)
         minus (suc d) e o z = let w : value 10 (suc d ∷ fs) ≡ 0 = ap (λ (x : ℕ). value 10 (x ∷ fs)) (sym e) ∙ z in omega (arith, value-lead 10 d fs T.ten)
 
-        lead_zero : lead ≡ 0 → (fs ≡ []) × (es ≡ 0 ∷ [])
+        lead_zero : c.lead ≡ 0 → (fs ≡ []) × (es ≡ 0 ∷ [])
         lead_zero z =
             let r = R.zero z in
             (fraction-none fs (omega (arith, r.0, total, tail-ends, C.fits)), one-zero es (omega (arith, r.0, total, tail-ends)) (sym A.is ∙ r.1))
 
-    pub canonical-rules : CanonicalParts parts → Rules t lead size end s.value
+    pub canonical-rules : CanonicalParts parts → Rules t c.lead c.size c.end s.value
     unfolding fraction value value_from
     canonical-rules K = record {
       zero = zeroed;
@@ -153,19 +156,19 @@ module _ (sgn : Bool) (letter : ℕ) (l : 57 < letter) (t : List ℕ) {m : Bool}
       enough = omega (arith, K.enough, A.is, C.fits, fraction-some fs);
     }
       where
-        zeroed : lead ≡ 0 → (length t ≡ 3) × (s.value ≡ 0)
+        zeroed : c.lead ≡ 0 → (length t ≡ 3) × (s.value ≡ 0)
         zeroed z =
             let k = K.lead z in
             let f : length (fraction fs) ≡ 0 = ap (λ (u : List ℕ). length (fraction u)) k.0 in
             let n : length es ≡ 1 = ap length k.1 in
-            let c : value 10 (lead ∷ fs) ≡ 0 = ap (λ (u : List ℕ). value 10 (lead ∷ u)) k.0 ∙ ap (λ (x : ℕ). value 10 (x ∷ [])) z in
-            (omega (arith, total, C.fits, plain m refl c), A.is ∙ ap (value 10) k.1)
+            let q : value 10 (c.lead ∷ fs) ≡ 0 = ap (λ (u : List ℕ). value 10 (c.lead ∷ u)) k.0 ∙ ap (λ (x : ℕ). value 10 (x ∷ [])) z in
+            (omega (arith, total, C.fits, plain c.minus refl q), A.is ∙ ap (value 10) k.1)
           where
-            plain : (o : Bool) → m ≡ o → value 10 (lead ∷ fs) ≡ 0 → length (sign m) ≡ 0
-            plain true e c = absurd (K.minus e c)
-            plain false e c = ap (λ (o : Bool). length (sign o)) e
+            plain : (o : Bool) → c.minus ≡ o → value 10 (c.lead ∷ fs) ≡ 0 → length (sign c.minus) ≡ 0
+            plain true e q = absurd (K.minus e q)
+            plain false e q = ap (λ (o : Bool). length (sign o)) e
 
-        spare : (k : List ℕ) → fs ≡ k → 0 < size → get_or t (end - 1) 0 ≡ 48 → ⊥
+        spare : (k : List ℕ) → fs ≡ k → 0 < c.size → get_or t (c.end - 1) 0 ≡ 48 → ⊥
         spare [] e h b = let f : length (fraction fs) ≡ 0 = ap (λ (u : List ℕ). length (fraction u)) e in omega (arith, C.fits)
         spare (x ∷ xs) e h b =
             let r = snoc x xs in
@@ -173,7 +176,7 @@ module _ (sgn : Bool) (letter : ℕ) (l : 57 < letter) (t : List ℕ) {m : Bool}
             let z : r.1 ≡ 0 = omega (arith, last_byte r.0 r.1 q) in
             K.spare r.0 (q ∙ ap (λ (y : ℕ). r.0 ++ (y ∷ [])) z)
 
-        two : (k : List ℕ) → es ≡ k → 2 ≤ length k → get_or t (end + 1) 0 ≡ 48 → ⊥
+        two : (k : List ℕ) → es ≡ k → 2 ≤ length k → get_or t (c.end + 1) 0 ≡ 48 → ⊥
         two [] e h b = omega arith
         two (x ∷ []) e h b = omega arith
         two (x ∷ y ∷ []) e h b = let z : x ≡ 0 = omega (arith, next-byte x (y ∷ []) e) in K.expo y (e ∙ ap (λ (w : ℕ). w ∷ y ∷ []) z)
@@ -181,28 +184,35 @@ module _ (sgn : Bool) (letter : ℕ) (l : 57 < letter) (t : List ℕ) {m : Bool}
 
     -- ---- the magnitude
 
-    zeros-are : s.value - (size - 1) ≡ (number parts).expo - (number parts).frac
+    zeros-are : s.value - (c.size - 1) ≡ (number parts).expo - (number parts).frac
     zeros-are = omega (arith, A.is, C.fits, fraction-some fs)
 
-    pub found-over : Rules t lead size end s.value → over ≡ true → IsExponent sgn letter t m 0 true
-    found-over R o = record {
+    -- what stands for the magnitude, with its zeros
+    is : (v : ℕ) → v ≡ value 10 (c.lead ∷ fs) → v * 10 ^ (s.value - (c.size - 1)) ≡ magnitude parts
+    is v e = ap₂ (λ (x y : ℕ). x * 10 ^ y) e zeros-are
+
+    pub found-wide : Rules t c.lead c.size c.end s.value → 2 ^ 64 ≤ value 10 (c.lead ∷ fs) → IsBeyond (exponents sgn letter) t
+    found-wide R h = record {
       parts = parts;
       reads = found-reads;
       canonical = rules-canonical R;
-      sign = refl;
-      held = λ f. absurd (true≢false f);
-      beyond = λ f. le_trans (C.beyond o) (le-mul_of_pos_right (number parts).coef (T.pos ((number parts).expo - (number parts).frac)));
+      beyond = le_trans h (le-mul_of_pos_right (number parts).coef (T.pos ((number parts).expo - (number parts).frac)));
     }
 
-    pub found-held : (h : Held) → Rules t lead size end s.value → over ≡ false → Product v (s.value - (size - 1)) h → IsExponent sgn letter t m h.value h.over
-    found-held h R o P = record {
-      parts = parts;
-      reads = found-reads;
-      canonical = rules-canonical R;
-      sign = refl;
-      held = λ f. P.held f ∙ is;
-      beyond = λ f. subst (λ (x : ℕ). 2 ^ 64 ≤ x) is (P.beyond f);
-    }
-      where
-        is : v * 10 ^ (s.value - (size - 1)) ≡ magnitude parts
-        is = ap₂ (λ (x y : ℕ). x * 10 ^ y) (C.held o) zeros-are
+    module _ (v : ℕ) (e : v ≡ value 10 (c.lead ∷ fs)) (R : Rules t c.lead c.size c.end s.value) where
+      pub found-over : Held None (v * 10 ^ (s.value - (c.size - 1))) → IsBeyond (exponents sgn letter) t
+      found-over P = record {
+        parts = parts;
+        reads = found-reads;
+        canonical = rules-canonical R;
+        beyond = subst (λ (x : ℕ). 2 ^ 64 ≤ x) (is v e) (omega (arith, P));
+      }
+
+      pub found-held : (n : ℕ) → Held (Some n) (v * 10 ^ (s.value - (c.size - 1))) → IsNumber (exponents sgn letter) t (record { negative = c.minus; magnitude = n })
+      found-held n P = record {
+        parts = parts;
+        reads = found-reads;
+        canonical = rules-canonical R;
+        sign = refl;
+        held = P.1 ∙ is v e;
+      }

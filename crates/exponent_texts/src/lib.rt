@@ -1,12 +1,27 @@
 // Exponent texts: behind the coefficient the exponent, the rules of writing and the magnitude.
 #![tactic(auto)]
 
-ghost use Rattle.std.specs.Prelude.{◌≡◌, ◌+◌, ◌-◌, ◌≤◌, ◌<◌, length};
-ghost use Rattle.exponent_texts.specs.Exponents.{AtMostTwo, Rules, Tells, Product, ExponentOf};
+ghost use Rattle.std.specs.Prelude.{◌≡◌, ◌+◌, ◌-◌, ◌*◌, ◌^◌, ◌≤◌, ◌<◌, length};
+ghost use Rattle.digit_runs.specs.Runs.{Held};
+ghost use Rattle.formats.specs.Formats.{letter_from};
+ghost use Rattle.exponent_texts.specs.Exponents.{DigitAt, AtMostTwo, Rules, Tells, exponents};
+ghost use Rattle.outcomes.specs.Found.{Found};
 
 use coefficients::{Coefficient, find_coefficient};
-use digit_runs::digit;
-use whole_texts::Found;
+use digit_runs::DECIMAL;
+use formats::Case;
+use kinds::Split;
+use outcomes::Fault;
+
+// The digit at a place, if one stands there.
+fn digit_at(text: &[u8], at: usize) -> Option<u64>
+    ensures { DigitAt text.now at result }
+{
+    if text.len() <= at {
+        return None;
+    }
+    DECIMAL.digit(text[at])
+}
 
 // At most two digits: where they end, and the number that they stand for.
 #[derive(Clone, Copy)]
@@ -20,45 +35,34 @@ fn exponent_digits(text: &[u8], from: usize) -> Short
     requires { from ≤ length text.now }
     ensures { AtMostTwo text.now from result }
 {
-    if text.len() <= from {
+    let Some(tens) = digit_at(text, from) else {
         return Short {
             end: from,
             value: 0,
         };
-    }
-    let tens = digit(text[from], b'a');
-    if 10 <= tens {
-        return Short {
-            end: from,
-            value: 0,
-        };
-    }
+    };
     let next = from + 1;
-    if text.len() <= next {
+    let Some(units) = digit_at(text, next) else {
         return Short {
             end: next,
             value: tens,
         };
-    }
-    let units = digit(text[next], b'a');
-    if 10 <= units {
-        return Short {
-            end: next,
-            value: tens,
-        };
-    }
+    };
     Short {
         end: next + 1,
         value: tens * 10 + units,
     }
 }
 
-// Whether the rules of writing hold of a text of the shape, whose letter stands at end and whose exponent is k.
-fn is_canonical(text: &[u8], lead: u64, size: usize, end: usize, k: u64) -> bool
-    requires { (size ≤ end) × (end + 1 < length text.now) × (k < 100) }
-    ensures { Tells (Rules text.now lead size end k) result }
+// Whether the rules of writing hold of a text of the shape, whose exponent is k.
+// That k has at most two digits, or a place is within the text, is a fact of numbers: a type for it would be no plainer.
+fn is_canonical(text: &[u8], coefficient: Coefficient, k: u64) -> bool
+    requires { (coefficient.size ≤ coefficient.end) × (coefficient.end + 1 < length text.now) × (k < 100) }
+    ensures { Tells (Rules text.now coefficient.lead coefficient.size coefficient.end k) result }
 {
-    if lead == 0 {
+    let size = coefficient.size;
+    let end = coefficient.end;
+    if coefficient.lead == 0 {
         if text.len() != 3 {
             return false;
         }
@@ -90,82 +94,47 @@ fn zeros(k: u64, size: usize) -> u64
     k + 1 - size as u64
 }
 
-// A number, unless it is over 64 bits.
-#[derive(Clone, Copy)]
-pub struct Held {
-    pub value: u64,
-    pub over: bool,
-}
-
 // n times 10 to the k, unless it is over 64 bits.
-fn times_power(n: u64, k: u64) -> Held
-    ensures { Product n k result }
+fn times_power(n: u64, k: u64) -> Option<u64>
+    ensures { Held result (n * 10 ^ k) }
 {
     if n == 0 {
-        return Held {
-            value: 0,
-            over: false,
-        };
+        return Some(0);
     }
     if 19 < k {
-        return Held {
-            value: 0,
-            over: true,
-        };
+        return None;
     }
     let p = digits::power(k as usize);
-    if 0xffff_ffff_ffff_ffff / p < n {
-        return Held {
-            value: 0,
-            over: true,
-        };
-    }
-    Held {
-        value: n * p,
-        over: false,
-    }
+    n.checked_mul(p)
 }
 
-// An exponent text: of another shape from a place on, not canonical, or a magnitude behind a minus or none.
-pub fn find_exponent(text: &[u8], signed: bool, letter: u8) -> Found
-    requires { (0 < length text.now) × (57 < letter) }
-    ensures { ExponentOf signed letter text.now result }
+// The number that an exponent text stands for; or it is of another shape from a place on, not canonical, or over 64 bits.
+pub fn find_exponent(text: &[u8], signed: bool, case: Case) -> Result<Split, Fault>
+    requires { 0 < length text.now }
+    ensures { Found (exponents signed (letter_from case 101)) text.now result }
 {
-    match find_coefficient(text, signed, letter) {
-        Coefficient::Wrong(k) => Found::Wrong(k),
-        Coefficient::Number {
-            minus,
-            lead,
-            size,
-            end,
-            value,
-            over,
-        } => {
-            let expo = exponent_digits(text, end + 1);
-            let last = expo.end;
-            if last < text.len() {
-                return Found::Wrong(last);
-            }
-            if last <= end + 1 {
-                return Found::Wrong(last);
-            }
-            let k = expo.value;
-            if is_canonical(text, lead, size, end, k) {
-                if over {
-                    return Found::Number {
-                        minus,
-                        value: 0,
-                        over: true,
-                    };
-                }
-                let held = times_power(value, zeros(k, size));
-                return Found::Number {
-                    minus,
-                    value: held.value,
-                    over: held.over,
-                };
-            }
-            Found::Broken
-        }
+    let coefficient = find_coefficient(text, signed, case)?;
+    let start = coefficient.end + 1;
+    let expo = exponent_digits(text, start);
+    let last = expo.end;
+    if last < text.len() {
+        return Err(Fault::Shape(last));
     }
+    if last <= start {
+        return Err(Fault::Shape(last));
+    }
+    let k = expo.value;
+    if is_canonical(text, coefficient, k) {
+        let Some(value) = coefficient.value else {
+            return Err(Fault::Range);
+        };
+        let Some(magnitude) = times_power(value, zeros(k, coefficient.size)) else {
+            return Err(Fault::Range);
+        };
+        return Ok(Split {
+            negative: coefficient.minus,
+            magnitude,
+        });
+    }
+    Err(Fault::NotCanonical)
 }

@@ -1,2 +1,3 @@
--- What the field reader promises.
-pub mod Fields
+-- What the lines and fields of an input are.
+pub mod Lines
+pub mod Numbers

@@ -1,46 +1,59 @@
-// The input, cut into lines: where each ends, and a label in front of a row.
-ghost use Rattle.std.specs.Prelude.{◌≡◌, ◌≤◌, length};
+// The input, cut into lines, each of which is played, and a label in front of a row.
+ghost use Rattle.std.specs.Prelude.{◌≡◌, ◌==◌, IfOk, MatchOption, length, position};
+ghost use Rattle.std.specs.Iterator.{IsFinite};
+ghost use Rattle.fields.specs.Lines.{IsWhole, IsCut, IsRow};
 
-use crate::output;
+use std::io;
+use std::io::Write;
 
-// Where the byte stands next, from the index from on: the length where it does not.
-pub fn find(bytes: &[u8], from: usize, byte: u8) -> usize
-    requires { from ≤ length bytes.now }
-    ensures { (from ≤ result) × (result ≤ length bytes.now) }
-{
-    let mut at = from;
-    while at < bytes.len() {
-        if bytes[at] == byte {
-            return at;
-        }
-        at += 1;
-    }
-    at
-}
-
-// Where the row of a line starts: behind its label and the bar, or at 0 where it has none.
-pub fn row_at(line: &[u8]) -> usize
-    ensures { result ≤ length line.now }
-{
-    let bar = find(line, 0, b'|');
-    if line.len() <= bar {
-        return 0;
-    }
-    bar + 1
-}
-
-// The label of a line whose row starts at the index row, and `: `.
-pub fn put_label(out: &mut [u8; 4096], waiting: usize, line: &[u8], row: usize) -> usize {
-    if row == 0 {
-        return waiting;
-    }
-    let now = output::put_front(out, waiting, line, row - 1);
-    output::put_all(out, now, b": ")
-}
-
-// Room for all of the input: a mebibyte.
-pub fn space() -> [u8; 1048576]
+// Room for all of the input that is played: a mebibyte.
+pub fn space() -> [u8; 1_048_576]
     ensures { 1048576 ≡ length result }
 {
-    [0; 1048576]
+    [0; 1_048_576]
+}
+
+// Plays each line in turn: what `answer` writes of it, and a newline. The last line may be without one.
+pub fn play<'a, I, W, F>(lines: I, out: &mut W, mut answer: F) -> io::Result<()>
+where
+    I: Iterator<Item = &'a [u8]> + Drop,
+    W: Write,
+    F: FnMut(&[u8], &mut W) -> io::Result<()>,
+    requires can { I.can_next lines }
+    requires ends { IsFinite (I.remaining lines) }
+    requires answers { F.IsAlwaysCallable answer }
+{
+    for line in lines {
+        answer(line.strip_suffix(b"\n").unwrap_or(line), out)?;
+        out.write_all(b"\n")?;
+    }
+    out.flush()
+}
+
+// Where the byte stands first.
+fn place(text: &[u8], byte: u8) -> Option<usize>
+    ensures { result ≡ position (λ each. each == byte) text.now }
+{
+    text.iter().position(|each| *each == byte)
+}
+
+// What stands in front of the first such byte, and what stands behind it.
+pub fn split_once(text: &[u8], byte: u8) -> Option<(&[u8], &[u8])>
+    ensures { MatchOption result (IsWhole byte text.now)
+        (λ parts. IsCut byte text.now parts.0.now parts.1.now) }
+{
+    let at = place(text, byte)?;
+    Some((&text[..at], &text[at + 1..]))
+}
+
+// The row of a line. A label in front of it, `LABEL|ROW`, is written as `LABEL: `.
+pub fn past_label<'a, W: Write>(line: &'a [u8], out: &mut W) -> io::Result<&'a [u8]>
+    ensures { IfOk result (λ row. IsRow line.now row.now (W.contents out.old) (W.contents out.new)) }
+{
+    let Some((label, row)) = split_once(line, b'|') else {
+        return Ok(line);
+    };
+    out.write_all(label)?;
+    out.write_all(b": ")?;
+    Ok(row)
 }

@@ -1,5 +1,5 @@
 // Three parts by value behind a sign: their length and their writing.
-// Carries over Formatted of num/imp/fmt.rs.
+// Carries over Formatted of num/imp/fmt.rs. The three are in straight line and no list: the exponent form writes by them.
 #![tactic(auto)]
 
 ghost use Rattle.std.specs.Prelude.{◌≡◌, ◌-◌, ◌^◌, ◌≤◌, ◌<◌, length};
@@ -8,13 +8,13 @@ ghost use Rattle.part_answers.specs.Answers.{measured, Writes};
 ghost use Rattle.parts.specs.Parts.{text_of, Inside, true_length};
 ghost use Rattle.formatted.specs.Three.{parts_of};
 
-use part_answers::{Measured, Wrote};
-use parts::Part;
+use part_answers::Refusal;
+use parts::{Part, Sign};
 
-// A sign code (0 none, 1 minus, 2 plus) and three parts behind it.
-#[derive(Clone, Copy)]
+// A sign and three parts behind it.
+#[derive(Clone, Copy, Debug, PartialEq, Eq)]
 pub struct Formatted {
-    pub sign: u32,
+    pub sign: Sign,
     pub first: Part,
     pub second: Part,
     pub third: Part,
@@ -22,7 +22,7 @@ pub struct Formatted {
 
 impl Formatted {
     // The length over a source of so many bytes.
-    pub fn length(self, source: usize) -> Measured
+    pub fn length(self, source: usize) -> Result<u64, Refusal>
         ensures { result ≡ measured source self.sign (parts_of self) }
     {
         let none = part_steps::scan_start(self.sign);
@@ -32,15 +32,12 @@ impl Formatted {
     }
 
     // The text at the start of out. Everything is checked before the first byte is written.
-    pub fn write(self, src: &[u8], out: &mut [u8]) -> Wrote
+    pub fn write(self, src: &[u8], out: &mut [u8]) -> Result<u64, Refusal>
         ensures { Writes self.sign (parts_of self) src.now out.old result out.new }
     {
-        let answer = part_steps::judge(self.length(src.len()), out.len());
-        let Wrote::Done(need) = answer else {
-            return answer;
-        };
+        let need = part_steps::judge(self.length(src.len()), out.len())?;
         self.write_before(src, out, need as usize);
-        answer
+        Ok(need)
     }
 
     // The length of parts that are known to fit.
@@ -49,9 +46,10 @@ impl Formatted {
         ensures { result ≡ true_length self.sign (parts_of self) }
     {
         let three = self.first.length() + self.second.length() + self.third.length();
-        (parts::sign_length(self.sign) + three) as usize
+        (self.sign.length() + three) as usize
     }
 
+    // The end travels beside the buffer, as in all crates of writers: the crate buffer says why.
     // The text just before end, with no check: for a caller who has made them all. Its start is handed back.
     pub fn write_before(self, src: &[u8], out: &mut [u8], end: usize) -> usize
         requires { Inside (length src.now) (parts_of self) × (true_length self.sign (parts_of self) ≤ end) × (end ≤ length out.old) }
@@ -60,6 +58,6 @@ impl Formatted {
         let third = self.third.write_before(src, out, end);
         let second = self.second.write_before(src, out, third);
         let first = self.first.write_before(src, out, second);
-        parts::write_sign(self.sign, out, first)
+        self.sign.write_before(out, first)
     }
 }

@@ -2,19 +2,17 @@
 // Carries over pad_formatted_parts of fmt/mod.rs, where the exponent form asks for it.
 #![tactic(auto)]
 
-ghost use Rattle.std.specs.Prelude.{◌≡◌, ◌≤◌, length};
-ghost use Rattle.std.proofs.Math.Option.{none};
+ghost use Rattle.std.specs.Prelude.{None, ◌≡◌, ◌≤◌, length};
 ghost use Rattle.exponent.specs.Coefficient.{Sized, scaled_text};
-ghost use Rattle.scaling.specs.Coefficient.{precision_of};
 ghost use Rattle.scientific.specs.Sci.{sci};
 ghost use Rattle.scientific.specs.Layout.{exp_text};
 ghost use Rattle.writing.specs.Text.{exponent_letter, framed, unframed};
 ghost use Rattle.writing.specs.Promise.{kept_answer, exponent_answer, Writes, Places};
 
-use exponent::Shown;
-use scaling::{Precision, Scaled};
-use writing::{Options, Written};
+use scaling::Scaled;
+use writing::{Options, Refusal, Written};
 
+// The format is document 01's number: the crate framing says why.
 // The letter of an exponent form.
 fn letter_of(format: u32) -> u8
     ensures { result ≡ exponent_letter format }
@@ -26,6 +24,7 @@ fn letter_of(format: u32) -> u8
 }
 
 // What was scaled, with nothing around it but a minus: its length, and in out where it has room. No scratch.
+// The steps of framing::write_bare around another writer: a function that takes the writer would hide from the compiler which it is.
 fn write_scaled(format: u32, scaled: Scaled, negative: bool, out: &mut [u8]) -> usize
     requires { Sized scaled }
     ensures { Places (unframed negative (scaled_text (exponent_letter format) scaled)) out.old result out.new }
@@ -49,7 +48,7 @@ fn write_scaled(format: u32, scaled: Scaled, negative: bool, out: &mut [u8]) -> 
 
 // The exponent form without precision, with nothing around it but a minus. No magnitude of 64 bits has an exponent of three digits: there is no refusal but NO_ROOM.
 pub fn write_bare_in_full(format: u32, n: u64, negative: bool, out: &mut [u8]) -> usize
-    ensures { ((sci none n).expo ≤ 99) × Places (unframed negative (exp_text (exponent_letter format) none n)) out.old result out.new }
+    ensures { ((sci None n).expo ≤ 99) × Places (unframed negative (exp_text (exponent_letter format) None n)) out.old result out.new }
 {
     write_scaled(format, scaling::in_full(n), negative, out)
 }
@@ -59,18 +58,18 @@ pub fn write_bare_exponent(
     format: u32,
     n: u64,
     negative: bool,
-    precision: Precision,
+    precision: Option<u16>,
     out: &mut [u8],
 ) -> Written
-    ensures { Writes (unframed negative (exp_text (exponent_letter format) (precision_of precision) n)) (kept_answer (precision_of precision) n (unframed negative (exp_text (exponent_letter format) (precision_of precision) n)) (length out.old)) out.old result out.new }
+    ensures { Writes (unframed negative (exp_text (exponent_letter format) precision n)) (kept_answer precision n (unframed negative (exp_text (exponent_letter format) precision n)) (length out.old)) out.old result out.new }
 {
     let room = out.len();
-    let Precision::Digits(_) = precision else {
+    let Some(_) = precision else {
         return writing::settle(write_bare_in_full(format, n, negative, out), room);
     };
     let scaled = scaling::scale(n, precision);
     if 99 < scaled.exp {
-        return Written::ExponentRefused;
+        return Err(Refusal::Exponent);
     }
     writing::settle(write_scaled(format, scaled, negative, out), room)
 }
@@ -84,33 +83,14 @@ pub fn write_framed_exponent(
     out: &mut [u8],
 ) -> Written
     requires { options.fill ≤ 126 }
-    ensures { Writes (framed options negative format (exp_text (exponent_letter format) (precision_of options.precision) n)) (exponent_answer options negative format n (length out.old)) out.old result out.new }
+    ensures { Writes (framed options negative format (exp_text (exponent_letter format) options.precision n)) (exponent_answer options negative format n (length out.old)) out.old result out.new }
 {
-    let fill = options.fill as u8;
-    let precision = options.precision;
     let mut scratch = [0u8; 24];
-    let shown = exponent::formatted(n, letter_of(format), precision, &mut scratch);
-    let Shown::Parts(parts) = shown else {
-        return Written::ExponentRefused;
+    let shown = exponent::formatted(n, letter_of(format), options.precision, &mut scratch);
+    let Some(parts) = shown else {
+        return Err(Refusal::Exponent);
     };
-    let layout = framing::lay_out(options, negative, format, parts.size());
-    let need = layout.need;
-    if out.len() < need {
-        return Written::NoRoom(need);
-    }
-    let pad = layout.pad;
-    let behind = pad.behind;
-    buffer::fill(fill, behind, out, need);
-    let at = parts.write_before(&scratch, out, need - behind);
-    padding::put_front(
-        pad,
-        fill,
-        negative,
-        options.plus,
-        options.alternate,
-        format,
-        out,
-        at,
-    );
-    Written::Done(need)
+    let layout = framing::put_around(options, negative, format, parts.size(), out)?;
+    parts.write_before(&scratch, out, layout.end);
+    Ok(layout.need)
 }

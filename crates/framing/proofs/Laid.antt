@@ -1,28 +1,32 @@
 -- A text that is laid out in a buffer, and the plain digits that it is laid around.
 -- Assumes nothing.
 use mathlib.Core.Bool.{Bool, true, false}
-use mathlib.Core.List.{List, ◌++◌}
+use Rattle.std.specs.Prelude.{Ok, Err}
+use mathlib.Core.List.{List, ◌++◌, append_assoc}
 use mathlib.Core.Path.{◌≡◌, refl, sym, ap, ◌∙◌}
 use Prim.Native.Nat.{ℕ, ◌+◌, ◌-◌, ◌^◌, ◌≤◌, ◌<◌}
 use native.Mathlib.Omega.{arith}
 use native.Mathlib.Nat.{lt_of_lt_of_le}
 use lib.Dec.{eqb, lit<, lit≤}
-use borrow.Author.Tests.{ne_eqb}
-use lib.ListN.{length, replicate, length-append, length-replicate}
+use borrow.Author.Tests.{ne_eqb, le-leb}
+use lib.ListN.{length, take, drop, replicate, length-append, length-replicate}
+use lib.Seq.{length-take-le, take_at, drop-append-add, drop-drop}
 use Rattle.buffer.specs.AtEnd.{ended}
-use Rattle.buffer.proofs.AtEnd.{ended-on}
+use Rattle.buffer.proofs.AtEnd.{length-ended, ended-on, ended-whole}
 use Rattle.digits.specs.Text.{ascii, decimal}
 use Rattle.digits.proofs.Text.{text-most}
 use Rattle.padding.specs.Padding.{sign_of, prefix_of}
-use Rattle.padding.specs.declared.Pad.{Pad}
 use Rattle.padding.proofs.Padding.{padded-is, padded-length}
 use Rattle.radix.specs.Radix.{radix}
 use Rattle.radix.proofs.Lengths.{radix-most}
-use Rattle.writing.specs.Promise.{Places}
+use Rattle.writing.specs.Promise.{fitted, Writes}
 use Rattle.writing.specs.Text.{framed, numeral}
 use Rattle.writing.specs.declared.Options.{Options}
-use Rattle.writing.proofs.Cases.{lacks-room, has_room}
-use Rattle.framing.specs.Laid.{Laid}
+use Rattle.writing.proofs.Cases.{lacks-room, settles-room, settles-done}
+use Rattle.framing.specs.Laid.{Laid, Surrounds}
+use Rattle.framing.specs.declared.Layout.{Layout}
+use Rattle.writing.specs.declared.Refusal.{Refusal}
+use Rattle.writing.specs.declared.Refusal.TheVariants as refusal
 
 pub numeral-decimal : (format n : ℕ) → format ≡ 0 → numeral format n ≡ decimal n
 numeral-decimal format n e = ap (λ (f : ℕ). numeral f n) e
@@ -40,35 +44,64 @@ numeral-few format n h = go (eqb format 0) refl
 
 -- ---- a text that is laid out
 
-module _ (o : Options) (negative : Bool) (format : ℕ) (digits : List ℕ) (pad : Pad) (need : ℕ) (L : Laid o negative format digits pad need) where
+-- a text in front of the place of another, and then that other
+behind : (l : List ℕ) (e : ℕ) (s t : List ℕ) → length s + length t ≤ e → e ≤ length l → ended (ended l (e - length t) s) e t ≡ ended l e (s ++ t)
+unfolding ended
+behind l e s t h k =
+    let o : ℕ = e - length t in
+    let a = take (o - length s) l in
+    let n : length (a ++ s) ≡ o = length-append a s ∙ ap (λ (x : ℕ). x + length s) (length-take-le (o - length s) l (omega arith)) ∙ omega arith in
+    let m : a ++ (s ++ drop o l) ≡ (a ++ s) ++ drop o l = sym (append_assoc a s (drop o l)) in
+    let f : take o (a ++ (s ++ drop o l)) ≡ a ++ s = rw m (take_at (a ++ s) (drop o l) o n) in
+    let i : length (a ++ s) + length t ≡ e = omega arith in
+    let j : o + length t ≡ e = omega arith in
+    let d : drop e (a ++ (s ++ drop o l)) ≡ drop e l = rw m (ap (λ (k : ℕ). drop k ((a ++ s) ++ drop o l)) (sym i) ∙ drop-append-add (a ++ s) (drop o l) (length t) ∙ drop-drop (length t) o l ∙ ap (λ (k : ℕ). drop k l) j) in
+    let q : e - length (s ++ t) ≡ o - length s = omega (arith, length-append s t) in
+    rw (f, d, q) (simp append_assoc)
+
+module _ (o : Options) (negative : Bool) (format : ℕ) (digits : List ℕ) (a : Layout) (L : Laid o negative format digits a) where
   abbrev front : List ℕ
-  front = replicate pad.before o.fill ++ (sign_of negative o.plus ++ (prefix_of o.alternate format ++ replicate pad.zeros 48))
+  front = replicate a.pad.before o.fill ++ (sign_of negative o.plus ++ (prefix_of o.alternate format ++ replicate a.pad.zeros 48))
 
   -- the whole length, by its pieces
-  pub need-is : need ≡ (pad.before + (length (sign_of negative o.plus) + (length (prefix_of o.alternate format) + pad.zeros))) + (length digits + pad.behind)
+  pub need-is : a.need ≡ (a.pad.before + (length (sign_of negative o.plus) + (length (prefix_of o.alternate format) + a.pad.zeros))) + (length digits + a.pad.behind)
   need-is = L.whole ∙ padded-length o.zero o.fill o.align o.width (sign_of negative o.plus) (prefix_of o.alternate format) digits L.planned
 
-  pub no_room : (l : List ℕ) → length l < need → Places (framed o negative format digits) l need l
-  no_room l h = lacks-room (framed o negative format digits) l need L.whole h
-
-  -- behind, digits and front, each just before what is behind it
-  pub in-room : (l l₁ l₂ l₃ : List ℕ) (at : ℕ) → need ≤ length l
-      → l₁ ≡ ended l need (replicate pad.behind o.fill)
-      → l₂ ≡ ended l₁ (need - pad.behind) digits
-      → at ≡ (need - pad.behind) - length digits
-      → l₃ ≡ ended l₂ at front
-      → Places (framed o negative format digits) l need l₃
-  in-room l l₁ l₂ l₃ at h e₁ e₂ i e₃ =
-      let back = replicate pad.behind o.fill in
-      let nb = length-replicate pad.behind o.fill in
-      let nz = length-replicate {A = ℕ} pad.zeros 48 in
-      let nf = length-replicate pad.before o.fill in
-      let nd = length-append digits back in
-      let np = length-append (prefix_of o.alternate format) (replicate {A = ℕ} pad.zeros 48) in
-      let ns = length-append (sign_of negative o.plus) (prefix_of o.alternate format ++ replicate {A = ℕ} pad.zeros 48) in
-      let na = length-append (replicate pad.before o.fill) (sign_of negative o.plus ++ (prefix_of o.alternate format ++ replicate {A = ℕ} pad.zeros 48)) in
+  -- fill behind and what is in front, and between them the digits
+  pub surrounds : (l l₁ l₂ : List ℕ) → a.need ≤ length l
+      → l₁ ≡ ended l a.need (replicate a.pad.behind o.fill)
+      → l₂ ≡ ended l₁ (a.end - length digits) front
+      → Surrounds (framed o negative format digits) digits l a l₂
+  surrounds l l₁ l₂ h e₁ e₂ =
+      let back = replicate a.pad.behind o.fill in
+      let nb = length-replicate a.pad.behind o.fill in
+      let nz = length-replicate {A = ℕ} a.pad.zeros 48 in
+      let nf = length-replicate a.pad.before o.fill in
+      let np = length-append (prefix_of o.alternate format) (replicate {A = ℕ} a.pad.zeros 48) in
+      let ns = length-append (sign_of negative o.plus) (prefix_of o.alternate format ++ replicate {A = ℕ} a.pad.zeros 48) in
+      let na = length-append (replicate a.pad.before o.fill) (sign_of negative o.plus ++ (prefix_of o.alternate format ++ replicate {A = ℕ} a.pad.zeros 48)) in
+      let nd = length-append front digits in
       let n = need-is in
-      let s₂ = ended-on l need back digits e₁ e₂ (omega arith) (omega arith) h in
-      let s₃ = ended-on l need (digits ++ back) front s₂ e₃ (omega arith) (omega arith) h in
-      let w : front ++ (digits ++ back) ≡ framed o negative format digits = sym (padded-is o.zero o.fill o.align o.width (sign_of negative o.plus) (prefix_of o.alternate format) digits L.planned) in
-      has_room (framed o negative format digits) l need L.whole l₃ h (rw w at s₃)
+      let w = L.ends in
+      let t = framed o negative format digits in
+      let k₁ : length l₁ ≡ length l = rw e₁ (length-ended l a.need back (omega arith) h) in
+      let k₂ : length l₂ ≡ length l₁ = rw e₂ (length-ended l₁ (a.end - length digits) front (omega arith) (omega arith)) in
+      let s₁ : ended l₂ a.end digits ≡ ended l₁ a.end (front ++ digits) = rw e₂ (behind l₁ a.end front digits (omega arith) (omega arith)) in
+      let s₂ : ended l₂ a.end digits ≡ ended l a.need ((front ++ digits) ++ back) = ended-on l a.need back (front ++ digits) e₁ s₁ (omega arith) (omega arith) h in
+      let v : (front ++ digits) ++ back ≡ t = append_assoc front digits back ∙ sym (padded-is o.zero o.fill o.align o.width (sign_of negative o.plus) (prefix_of o.alternate format) digits L.planned) in
+      record {
+        whole = L.whole;
+        room = h;
+        inside = omega arith;
+        ends = omega arith;
+        text = s₂ ∙ rw (v, L.whole) (ended-whole l t);
+      }
+
+-- ---- the answer of a text whose digits are written last
+
+module _ {t l : List ℕ} where
+  pub around-done : {digits : List ℕ} {a : Layout} {l' l'' : List ℕ} → Surrounds t digits l a l' → l'' ≡ ended l' a.end digits → Writes t (fitted t (length l)) l (Ok a.need) l''
+  around-done {digits} {a} {l'} {l''} S e = settles-done (record { long = S.whole; leaves = rw (le-leb (length t) (length l) (rw S.whole at S.room)) (e ∙ S.text) }) S.room
+
+  pub around-lacks : {r : Refusal} {l' : List ℕ} → (r ≡ refusal.NoRoom (length t)) × (length l < length t) × (l' ≡ l) → Writes t (fitted t (length l)) l (Err r) l'
+  around-lacks {r} {l'} S = rw (S.0, S.2) (settles-room (lacks-room t l (length t) refl S.1) S.1)

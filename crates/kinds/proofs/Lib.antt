@@ -1,4 +1,3 @@
 -- Laws that belong to no one function.
 pub mod Patterns
-pub mod Signs
 pub mod Sizes

@@ -2,17 +2,15 @@
 -- Assumes nothing.
 use mathlib.Core.Bool.{Bool, true, false, false≢true}
 use mathlib.Core.Path.{◌≡◌, refl, sym, ap, ◌∙◌}
-use mathlib.Core.Logic.{◌⊎◌, inl, inr}
 use Prim.Native.Nat.{ℕ, suc, ◌+◌, ◌-◌, ◌*◌, ◌/◌, ◌%◌, ◌^◌, ◌≤◌, ◌<◌}
 use native.Mathlib.Decide.{dec_le}
 use native.Mathlib.Nat.{mod-eq_of_lt, mul-div_cancel, pow-suc, one-mul}
 use native.Mathlib.Omega.{arith}
-use borrow.Author.Tests.{ltb-true, ltb-false, lt-ltb, le-ltb, ne_eqb}
-use lib.Dec.{ltb, eqb}
+use borrow.Author.Tests.{ltb-true, ltb-false, lt-ltb, le-ltb}
+use lib.Dec.{ltb}
 use lib.IntN.{ℤ, pos, negsuc}
-use lib.Signed.{mag}
 use lib.Pow.{pow-lt, pow_mono, pow_pos, field, not_mod}
-use Rattle.kinds.specs.Kinds.{known, is_in_type, pattern, reading, meaning, split_of}
+use Rattle.kinds.specs.Kinds.{is_in_type, pattern, reading, meaning}
 
 -- two times half of the numbers of so many bits are all of them
 pub halves : (b : ℕ) → 1 ≤ b → 2 ^ b ≡ 2 ^ (b - 1) * 2
@@ -50,15 +48,7 @@ own-pattern w b (negsuc k) one h t =
     let e₂ : 2 ^ w - suc k ≡ (2 ^ ((w - b) + b) - 1) - k = omega (arith, ap (λ (j : ℕ). 2 ^ j) e) in
     ap (λ (x : ℕ). x % 2 ^ b) e₂ ∙ m ∙ omega arith
 
--- a signed value of so many bits: it is in its type, and its word's pattern stands for it
-pub signed-own : (b : ℕ) (z : ℤ) → mag z < 2 ^ (b - 1) → is_in_type true b z ≡ true
-signed-own b (pos n) h = lt-ltb n (2 ^ (b - 1)) h
-signed-own b (negsuc k) h = lt-ltb k (2 ^ (b - 1)) h
-
-pub signed-meaning : (w b : ℕ) (z : ℤ) (p : ℕ) → 1 ≤ w → b ≤ w → mag z < 2 ^ (b - 1) → p ≡ pattern w z → meaning w true p ≡ z
-signed-meaning w b z p one h m e = rw e (reading-pattern w b z one h (signed-own b z m))
-
--- so does one of an unsigned type, and two values of a type with one pattern are one
+-- a value of any type, as a pattern of a word that is no narrower, stands for itself; and two values of a type with one pattern are one
 pub meaning-pattern : (w b : ℕ) (s : Bool) (z : ℤ) → 1 ≤ w → b ≤ w → is_in_type s b z ≡ true → meaning w s (pattern w z) ≡ z
 meaning-pattern w b true z one h t = reading-pattern w b z one h t
 meaning-pattern w b false (pos n) one h t = refl
@@ -86,15 +76,6 @@ module _ (w b p : ℕ) (one : 1 ≤ b) (h : b ≤ w) (fits : p < 2 ^ w) where
           let f : 2 ^ (b - 1) ≤ (2 ^ w - 1) - p = omega (arith, half, halves w (omega arith)) in
           rw (read_low w p k, le-ltb p (2 ^ (b - 1)) l, le-ltb ((2 ^ w - 1) - p) (2 ^ (b - 1)) f)
 
--- each pattern of a word is a value of the type of so many bits
-pub in_whole : (w : ℕ) (s : Bool) (p : ℕ) → 1 ≤ w → p < 2 ^ w → is_in_type s w (meaning w s p) ≡ true
-in_whole w false p one fits = lt-ltb p (2 ^ w) fits
-in_whole w true p one fits = go (dec_le (2 ^ (w - 1)) p)
-  where
-    go : Dec (2 ^ (w - 1) ≤ p) → is_in_type true w (reading w p) ≡ true
-    go (yes g) = rw (read-high w p g) (lt-ltb (2 ^ w - suc p) (2 ^ (w - 1)) (omega (arith, halves w one)))
-    go (no g) = rw (read_low w p (omega arith)) (lt-ltb p (2 ^ (w - 1)) (omega arith))
-
 -- half of an unsigned number is below half of the type's numbers exactly where it is below all of them
 pub in-unsigned : (b p : ℕ) → 1 ≤ b → ltb (p / 2) (2 ^ (b - 1)) ≡ is_in_type false b (pos p)
 in-unsigned b p one = go (ltb p (2 ^ b)) refl
@@ -119,24 +100,3 @@ shifted_back w b p h =
 -- a 1 that is moved b places is 2 ^ b, in a word of more places
 pub one_shifted : (w b : ℕ) → b < w → (1 * 2 ^ b) % 2 ^ w ≡ 2 ^ b
 one_shifted w b h = rw one-mul (mod-eq_of_lt (pow-lt h))
-
--- sign and magnitude, by which way a word's pattern is read
-pub split-low : (w p : ℕ) → p < 2 ^ (w - 1) → record { negative = false; magnitude = p } ≡ split_of (reading w p)
-split-low w p h = rw (read_low w p h)
-
-pub split-high : (w p : ℕ) → p < 2 ^ w → 2 ^ (w - 1) ≤ p → record { negative = true; magnitude = ((2 ^ w - 1) - p) + 1 } ≡ split_of (reading w p)
-split-high w p fits h = let e : ((2 ^ w - 1) - p) + 1 ≡ suc (2 ^ w - suc p) = omega arith in rw (read-high w p h, e)
-
--- ---- which bits are a type's
-
-pub known-yes : (b : ℕ) → (b ≡ 8) ⊎ ((b ≡ 16) ⊎ (b ≡ 32)) → known b ≡ true
-known-yes b (inl e) = ap known e
-known-yes b (inr (inl e)) = ap known e
-known-yes b (inr (inr e)) = ap known e
-
-pub known-no : (b : ℕ) → b ≤ 63 → ((b ≡ 8) ⊎ ((b ≡ 16) ⊎ (b ≡ 32)) → ⊥) → known b ≡ false
-known-no b l h = rw (ne_eqb b 8 (λ e. h (inl e)), ne_eqb b 16 (λ e. h (inr (inl e))), ne_eqb b 32 (λ e. h (inr (inr e))), ne_eqb b 64 (λ e. omega arith))
-
--- beyond 63 only 64
-pub known-beyond : (b : ℕ) → 63 < b → eqb b 64 ≡ known b
-known-beyond b l = rw (ne_eqb b 8 (λ e. omega arith), ne_eqb b 16 (λ e. omega arith), ne_eqb b 32 (λ e. omega arith))

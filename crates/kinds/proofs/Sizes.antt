@@ -4,7 +4,7 @@ use mathlib.Core.Bool.{Bool, true, false}
 use mathlib.Core.Path.{◌≡◌, refl, sym, ◌∙◌}
 use Prim.Native.Nat.{ℕ, suc, ◌-◌, ◌^◌, ◌≤◌}
 use native.Mathlib.Omega.{arith}
-use borrow.Author.Tests.{eqb-true, ltb-true, lt-ltb, ne_eqb}
+use borrow.Author.Tests.{eqb-true, ltb-true, lt-ltb}
 use lib.Dec.{eqb, lit<}
 use lib.IntN.{ℤ, pos, negsuc}
 use lib.ListN.{length}
@@ -55,14 +55,9 @@ one_answer {sign} {b} {m} {n} p q = go (known b) refl
     go true e = one-greatest (p.of-type e) (q.of-type e)
     go false e = p.of_none e ∙ sym (q.of_none e)
 
--- the size of a type, and of what is none of the bits of a type
+-- the size of a type
 pub of-type : {sign : Bool} {b n : ℕ} → known b ≡ true → Greatest sign b n → BufSize sign b n
 of-type k g = record { of-type = λ _. g; of_none = λ h. absurd (let z : ◌≡◌ {A = ℕ} 0 1 = cc in omega arith) }
-
-pub of_none : {sign : Bool} (b : ℕ) → (((Unit {0} × (b ≡ 8 → ⊥)) × (b ≡ 16 → ⊥)) × (b ≡ 32 → ⊥)) × (b ≡ 64 → ⊥) → BufSize sign b 0
-of_none b h =
-    let f : known b ≡ false = rw (ne_eqb b 8 h.0.0.0.1, ne_eqb b 16 h.0.0.1, ne_eqb b 32 h.0.1, ne_eqb b 64 h.1) in
-    record { of-type = λ k. absurd (let z : ◌≡◌ {A = ℕ} 0 1 = cc in omega arith); of_none = λ _. refl }
 
 -- a type has 1 to 64 bits
 pub known-range : (bits : ℕ) → known bits ≡ true → (1 ≤ bits) × (bits ≤ 64)

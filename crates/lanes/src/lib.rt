@@ -21,7 +21,7 @@ fn spread4(n: u32) -> u32
 fn swapped(n: u32) -> u32
     ensures { result ≡ word 256 (last 256 4 n) }
 {
-    (n >> 24) + ((n >> 16) % 256 << 8) + ((n >> 8) % 256 << 16) + ((n % 256) << 24)
+    n.swap_bytes()
 }
 
 // They go into lanes of twice the size, the first lowest.
@@ -35,6 +35,7 @@ fn wide_bytes(n: u64) -> u64
 }
 
 // The eight hex digits of n: the halves of each byte go into lanes of half the size.
+// No twin of spread4: eight digits are turned first.
 fn spread8(n: u64) -> u64
     requires { n < 4294967296 }
     ensures { result ≡ word 256 (last 16 8 n) }
@@ -43,7 +44,8 @@ fn spread8(n: u64) -> u64
     ((bytes >> 4) | (bytes << 8)) & 0x0f0f_0f0f_0f0f_0f0f
 }
 
-// The text of eight hex digits that lie one a byte. Six more carry a digit from ten on into the next bit of its lane: there the step from `:` (58) to the letter is added.
+// The text of eight hex digits that lie one a byte: not `shown`, which knows no letters and so takes less. Six more carry a digit from ten on into the next bit of its lane: there the step from `:` (58) to the letter is added.
+// A letter is a number: a type for its two bounds would be no plainer, since each caller passes one of two letters. So with how many bits an argument has.
 pub fn spelled(letter: u64, x: u64) -> u64
     requires { (57 < letter) × (letter ≤ 250) × (Below 16 (bytes_of 8 x)) }
     ensures { bytes_of 8 result ≡ map (digit_byte letter) (bytes_of 8 x) }
@@ -88,11 +90,19 @@ fn spread_bits(n: u64) -> u64
 }
 
 // The text of eight digits that lie one a byte and are below ten: `0` more in each.
-fn shown(x: u64) -> u64
+pub fn shown(x: u64) -> u64
     requires { Below 10 (bytes_of 8 x) }
     ensures { bytes_of 8 result ≡ map ascii (bytes_of 8 x) }
 {
     x + 0x3030_3030_3030_3030
+}
+
+// The same of four: of eight, of which four are zeros behind.
+pub fn shown4(x: u32) -> u32
+    requires { Below 10 (bytes_of 4 x) }
+    ensures { bytes_of 4 result ≡ map ascii (bytes_of 4 x) }
+{
+    (shown(x as u64) % 4294967296) as u32
 }
 
 // The text of the eight binary digits of n.
@@ -121,7 +131,7 @@ fn spread_octal(n: u64) -> u64
     ((pairs >> 3) | (pairs << 8)) & 0x0707_0707_0707_0707
 }
 
-// The text of the eight octal digits of n.
+// The text of the eight octal digits of n. No twin of eight_bits: the numbers are spread by other steps, and what shows them is one, `shown`.
 pub fn eight_octal(n: u64) -> u64
     requires { n < 16777216 }
     ensures { bytes_of 8 result ≡ last_text ascii 8 8 n }

@@ -1,4 +1,5 @@
 // The C edge: the entries that larguviet_c exports to the firmware in C and to the Rust oracle. A slice is a pointer and a length; an answer is two words.
+// Flags, formats and alignments are numbers, and the end entry has a name for each type, since C calls them so.
 #![tactic(auto)]
 
 ghost use Rattle.std.specs.Prelude.{length};
@@ -9,6 +10,7 @@ ghost use Rattle.writing.specs.Text.{text_of};
 ghost use Rattle.writing.specs.Promise.{answer, house};
 ghost use Rattle.edge.specs.Edge.{set, options_from, Answers, Reads};
 
+use decimal::Number;
 use edge::Answer;
 use kinds::Kind;
 use writing::Options;
@@ -45,11 +47,7 @@ pub fn lgv_write(
         width,
         precision: digits,
     };
-    let written = writer::write(kind, value, format, options, out);
-    Answer {
-        number: written.number(),
-        value: written.value() as u64,
-    }
+    Answer::from(writer::write(kind, value, format, options, out))
 }
 
 // The same at the house default.
@@ -60,11 +58,7 @@ pub fn lgv_write_short(bits: u32, is_signed: u32, value: u64, format: u32, out: 
         bits,
         signed: is_signed != 0,
     };
-    let written = writer::write_short(kind, value, format, out);
-    Answer {
-        number: written.number(),
-        value: written.value() as u64,
-    }
+    Answer::from(writer::write_short(kind, value, format, out))
 }
 
 // A plain text back to its value. What most calls hand over, a short decimal text, is read at once; its answer stays in registers,
@@ -77,12 +71,8 @@ pub fn lgv_read(bits: u32, is_signed: u32, format: u32, text: &[u8]) -> Answer
         signed: is_signed != 0,
     };
     if format == 0 {
-        let found = reader::read_short(kind, text);
-        if found.done {
-            return Answer {
-                number: 0,
-                value: found.value,
-            };
+        if let Some(value) = reader::read_short(kind, text) {
+            return Answer { number: 0, value };
         }
         let any = edge::read_any(kind, format, text);
         return Answer {
@@ -101,12 +91,12 @@ pub fn lgv_read(bits: u32, is_signed: u32, format: u32, text: &[u8]) -> Answer
 pub fn lgv_decimal_end_u64(value: u64, out: &mut [u8]) -> usize
     ensures { EndPromise (decimal value) out.old result out.new }
 {
-    decimal::end_at_u64(value, out)
+    u64::end_at(value, out)
 }
 
 // As lgv_decimal_end_u64, for an i64.
 pub fn lgv_decimal_end_i64(value: i64, out: &mut [u8]) -> usize
     ensures { EndPromise (signed value) out.old result out.new }
 {
-    decimal::end_at_i64(value, out)
+    i64::end_at(value, out)
 }

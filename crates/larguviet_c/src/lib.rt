@@ -1,4 +1,5 @@
 // The archive's exports: what the firmware in C calls, by the names of include/larguviet.h. Each is larguviet's entry of that name, with its promise.
+// Numbers for flags and formats, and a name for each type, are the C interface.
 #![tactic(auto)]
 
 ghost use Rattle.std.specs.Prelude.{length};

@@ -1,2 +1,3 @@
--- What reading answers of a value.
+-- What reading answers of a value, and what a text is found to be.
 pub mod Outcomes
+pub mod Found

@@ -14,6 +14,7 @@ pub struct Pad {
     pub behind: usize,
 }
 
+// The alignment is a number: `known_options` judges the caller's, and `padded` gives a text for any.
 // The padding of a text of len bytes, sign and prefix included, to a width.
 pub fn plan(zero_pad: bool, align: u32, width: u16, len: usize) -> Pad
     ensures { Planned zero_pad align (width - len) result.before result.zeros result.behind × (result.before + (result.zeros + result.behind) ≤ 65535) }
@@ -68,6 +69,7 @@ pub fn sign_length(negative: bool, plus: bool) -> usize
     0
 }
 
+// The format is document 01's number: the crate framing says why.
 // How long the prefix is.
 pub fn prefix_length(alternate: bool, code: u32) -> usize
     ensures { result ≡ length (prefix_of alternate code) }
@@ -82,6 +84,7 @@ pub fn prefix_length(alternate: bool, code: u32) -> usize
     0
 }
 
+// The end travels beside the buffer, as in all crates of writers: the crate buffer says why.
 // The sign just before end.
 fn put_sign(negative: bool, plus: bool, out: &mut [u8], end: usize)
     requires { (length (sign_of negative plus) ≤ end) × (end ≤ length out.old) }
@@ -134,6 +137,7 @@ fn put_prefix(alternate: bool, code: u32, out: &mut [u8], end: usize)
 }
 
 // What is in front of the digits, just before end: fill, sign, prefix, zeros.
+// Flags one by one: Options stand in writing, above this crate.
 pub fn put_front(
     pad: Pad,
     fill: u8,

@@ -8,7 +8,8 @@ ghost use Rattle.buffer.specs.AtEnd.{ended};
 ghost use Rattle.digits.specs.Tables.{pair_table};
 ghost use Rattle.digits.specs.Text.{ascii, last_text, decimal};
 
-// The two digits of k at the index at.
+// The two digits of k at the index at. Not the put2 of bit_table: there each digit is looked up by itself, here both are one entry.
+// The table is lent with its rule: a struct that lends it, for three functions, would be no plainer.
 fn put2(pairs: &[u8; 200], k: usize, buf: &mut [u8], at: usize)
     requires { (pairs.now ≡ pair_table) × (k < 100) × (at + 2 ≤ length buf.old) }
     ensures { buf.new ≡ sets buf.old at (last_text ascii 10 2 k) }
@@ -27,6 +28,8 @@ fn put4(pairs: &[u8; 200], k: usize, buf: &mut [u8], at: usize)
 }
 
 // The decimal text of n just before the index end, with the table of pairs. The answer is where it starts.
+// The loop runs over what is left of the number, of which nothing is a list: a `for` would need an iterator of quotients of its own.
+// The end travels beside the buffer, as in all crates of writers: the crate buffer says why.
 fn fmt_inner(pairs: &[u8; 200], n: u64, buf: &mut [u8], end: usize) -> usize
     requires { (pairs.now ≡ pair_table) × (length (decimal n) ≤ end) × (end ≤ length buf.old) }
     ensures { (result ≡ end - length (decimal n)) × (buf.new ≡ ended buf.old end (decimal n)) }

@@ -1,68 +1,36 @@
-// The answers to a list of parts, of its length and of its writing: each with document 01's number and what it returns.
+// The answer to a list of parts, of its length or of its writing: a length, or why there is none. Its number by document 01, and what it returns.
 #![tactic(auto)]
 
 ghost use Rattle.std.specs.Prelude.{◌≡◌};
-ghost use Rattle.part_answers.specs.Answers.{measured_number, measured_value, wrote_number, wrote_value};
+ghost use Rattle.part_answers.specs.Answers.{number_of, value_of};
 
-// What the length is, or why there is none.
-#[derive(Clone, Copy)]
-pub enum Measured {
-    Done(u64),
-    OptionsRefused,
-    PartRefused(usize),
-}
-
-// What became of writing.
-#[derive(Clone, Copy)]
-pub enum Wrote {
-    Done(u64),
-    OptionsRefused,
-    PartRefused(usize),
+// A sign or a kind is unknown; the index of the first part that leaves its source; the length that has no room.
+#[derive(Clone, Copy, Debug, PartialEq, Eq)]
+pub enum Refusal {
+    Options,
+    Part(usize),
     NoRoom(u64),
 }
 
-impl Measured {
-    pub fn number(self) -> u32
-        ensures { result ≡ measured_number self }
-    {
-        match self {
-            Measured::Done(_) => 0,
-            Measured::OptionsRefused => 6,
-            Measured::PartRefused(_) => 9,
-        }
-    }
-
-    pub fn value(self) -> u64
-        ensures { result ≡ measured_value self }
-    {
-        match self {
-            Measured::Done(n) => n,
-            Measured::OptionsRefused => 0,
-            Measured::PartRefused(i) => i as u64,
-        }
+// Document 01's number of an answer, and what it returns. A function for each of the three answers: docs/RULES.md names a definition for each.
+pub fn number(answer: Result<u64, Refusal>) -> u32
+    ensures { result ≡ number_of answer }
+{
+    match answer {
+        Ok(_) => 0,
+        Err(Refusal::Options) => 6,
+        Err(Refusal::Part(_)) => 9,
+        Err(Refusal::NoRoom(_)) => 8,
     }
 }
 
-impl Wrote {
-    pub fn number(self) -> u32
-        ensures { result ≡ wrote_number self }
-    {
-        match self {
-            Wrote::Done(_) => 0,
-            Wrote::OptionsRefused => 6,
-            Wrote::PartRefused(_) => 9,
-            Wrote::NoRoom(_) => 8,
-        }
-    }
-
-    pub fn value(self) -> u64
-        ensures { result ≡ wrote_value self }
-    {
-        match self {
-            Wrote::Done(n) => n,
-            Wrote::OptionsRefused => 0,
-            Wrote::PartRefused(i) => i as u64,
-            Wrote::NoRoom(n) => n,
-        }
+pub fn value(answer: Result<u64, Refusal>) -> u64
+    ensures { result ≡ value_of answer }
+{
+    match answer {
+        Ok(n) => n,
+        Err(Refusal::Options) => 0,
+        Err(Refusal::Part(i)) => i as u64,
+        Err(Refusal::NoRoom(need)) => need,
     }
 }

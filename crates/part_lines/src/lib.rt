@@ -7,38 +7,27 @@
 //                           twelve_parts::length and write
 #![tactic(auto)]
 
-use fields::{lines, output};
+use fields::output::Output;
+use fields::{answers, lines};
+use std::io::Write;
 
 mod list;
 mod row;
 mod three;
 
-fn answer(line: &[u8], out: &mut [u8; 4096], waiting: usize) -> usize {
-    if line.len() < 2 {
-        return output::put(out, waiting, b'?');
-    }
-    match line[0] {
-        b'p' => three::answer(line, out, waiting),
-        b'l' => list::answer(line, out, waiting),
-        _ => output::put(out, waiting, b'?'),
+fn answer<W: Write>(line: &[u8], out: &mut W) -> std::io::Result<()> {
+    match line {
+        [b'p', _, row @ ..] => three::answer(row, out),
+        [b'l', _, row @ ..] => list::answer(row, out),
+        _ => answers::unknown(out),
     }
 }
 
-fn play(input: &[u8]) {
-    let mut out = [0u8; 4096];
-    let mut waiting = 0;
-    let mut from = 0;
-    while from < input.len() {
-        let end = lines::find(input, from, b'\n');
-        waiting = answer(&input[from..end], &mut out, waiting);
-        waiting = output::put(&mut out, waiting, b'\n');
-        from = end + 1;
-    }
-    output::flush(&out, waiting);
-}
-
+// Plays standard input. The output never fails: what it can't write it passes over.
+// Not by player::run, which answers other lines, takes off labels, and has the edit line_played_for_ever.
 pub fn run() {
-    let mut all = lines::space();
-    let n = io::read_full(0, &mut all);
-    play(&all[..n]);
+    let mut space = lines::space();
+    let n = io::read_full(0, &mut space);
+    let lines = space[..n].split_inclusive(|byte| *byte == b'\n');
+    let _ = lines::play(lines, &mut Output::new(), |line, out| answer(line, out));
 }

@@ -1,53 +1,54 @@
 // The lines `l COUNT SOURCE SIGN [KIND A B ..] ROOM`: a list of 0 to 12 parts, each its kind and two numbers.
-ghost use Rattle.std.specs.Prelude.{◌≤◌};
+ghost use Rattle.std.specs.Prelude.{◌≤◌, IfSome};
 
-use crate::row::{SOURCE, part, shown};
-use fields::narrow::word;
-use fields::{field, narrow, output};
-use parts::Part;
+use crate::row::{both, part, source};
+use fields::answers;
+use fields::held::held;
+use fields::numbers::numbers;
+use parts::{Part, Sign};
+use std::io;
+use std::io::Write;
 
-// Twelve parts, of which the first ones are the line's: behind them stands what is left of its fields.
-fn twelve(fields: &[u64; 40]) -> [Part; 12] {
-    let none = part(0, 0, 0);
-    let mut list = [none; 12];
-    for i in 0..12 {
-        let at = 3 + 3 * i;
-        list[i] = part(fields[at], fields[at + 1], fields[at + 2]);
+// Parts of three numbers each, 12 at most, and how many they are.
+// An array and a count, as twelve_parts takes them.
+fn parts_of(numbers: &[u64]) -> Option<([Part; 12], usize)>
+    ensures { IfSome result (λ parts. parts.1 ≤ 12) }
+{
+    let (triples, rest) = numbers.as_chunks::<3>();
+    if !rest.is_empty() {
+        return None;
     }
-    list
+    if 12 < triples.len() {
+        return None;
+    }
+    let mut list = [part(0, 0, 0); 12];
+    for (place, [kind, a, b]) in list.iter_mut().zip(triples) {
+        *place = part(*kind, *a, *b);
+    }
+    Some((list, triples.len()))
 }
 
 // The length, and writing over a buffer of so many dots.
-fn both(
-    fields: &[u64; 40],
-    count: usize,
-    source: &[u8],
-    out: &mut [u8; 4096],
-    waiting: usize,
-) -> usize
-    requires { count ≤ 12 }
-{
-    let mut space = [b'.'; 512];
-    let n = narrow::within(fields[3 + 3 * count] as usize, &space);
-    let room = &mut space[..n];
-    let sign = word(fields[2]);
-    let list = twelve(fields);
-    let length = twelve_parts::length(sign, list, count, source.len());
-    let wrote = twelve_parts::write(sign, list, count, source, room);
-    shown(length, wrote, room, out, waiting)
-}
-
-pub fn answer(line: &[u8], out: &mut [u8; 4096], waiting: usize) -> usize {
-    let mut fields = [0u64; 40];
-    let numbers = field::numbers_at(line, 2, &mut fields);
-    let count = fields[0] as usize;
-    if 12 < count {
-        return output::put(out, waiting, b'?');
+pub fn answer<W: Write>(row: &[u8], out: &mut W) -> io::Result<()> {
+    let Some(numbers) = numbers(row) else {
+        return answers::unknown(out);
+    };
+    let [count, len, sign, parts @ .., size] = numbers.as_slice() else {
+        return answers::unknown(out);
+    };
+    let Some(parts) = parts_of(parts) else {
+        return answers::unknown(out);
+    };
+    // By field, since no proof is made of an array that a pattern takes out of a tuple.
+    let list = parts.0;
+    let listed = parts.1;
+    if listed as u64 != *count {
+        return answers::unknown(out);
     }
-    if numbers != 4 + 3 * count {
-        return output::put(out, waiting, b'?');
-    }
-    let source = SOURCE;
-    let n = narrow::within(fields[1] as usize, &source);
-    both(&fields, count, &source[..n], out, waiting)
+    let sign = Sign::from(held::<u32>(*sign));
+    let source = source(*len);
+    let length = twelve_parts::length(sign, list, listed, source.len());
+    both(length, *size, out, move |room| {
+        twelve_parts::write(sign, list, listed, source, room)
+    })
 }

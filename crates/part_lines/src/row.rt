@@ -1,33 +1,48 @@
 // What the lines of three parts and of a list have in common.
-use fields::narrow::{half, word};
-use fields::output;
-use part_answers::{Measured, Wrote};
+use fields::answers;
+use fields::held::held;
+use part_answers::Refusal;
 use parts::Part;
+use std::io;
+use std::io::Write;
 
-// What the parts copy from, as far as the line says.
-pub const SOURCE: [u8; 26] = *b"abcdefghijklmnopqrstuvwxyz";
+// What the parts copy from.
+const SOURCE: [u8; 26] = *b"abcdefghijklmnopqrstuvwxyz";
 
-// The two numbers are how many zeros, a number, or start and length of the copied run; what a kind does not use is not read.
-pub fn part(kind: u64, a: u64, b: u64) -> Part {
-    Part {
-        kind: word(kind),
-        number: half(a),
-        zeros: a,
-        start: a,
-        len: b,
-    }
+// The source, as far as the line says.
+pub fn source(len: u64) -> &'static [u8] {
+    let n = SOURCE.len().min(len as usize);
+    &SOURCE[..n]
 }
 
-// `NUMBER VALUE` of the length, and `NUMBER VALUE [BUFFER]` of writing.
-pub fn shown(
-    length: Measured,
-    wrote: Wrote,
-    room: &[u8],
-    out: &mut [u8; 4096],
-    waiting: usize,
-) -> usize {
-    let mut now = output::put_answer(out, waiting, length.number() as u64, length.value());
-    now = output::put(out, now, b' ');
-    now = output::put_answer(out, now, wrote.number() as u64, wrote.value());
-    output::put_buffer(out, now, room)
+// The two numbers are how many zeros, a number, or start and length of the copied run; what a kind does not use is not read.
+// The kind is a number of the line.
+pub fn part(kind: u64, a: u64, b: u64) -> Part {
+    Part::of_kind(held(kind), held(a), a, a, b)
+}
+
+// `NUMBER VALUE` of an answer.
+fn told<W: Write>(answer: Result<u64, Refusal>, out: &mut W) -> io::Result<()> {
+    answers::pair(
+        out,
+        part_answers::number(answer) as u64,
+        part_answers::value(answer),
+    )
+}
+
+// `NUMBER VALUE` of the length, and `NUMBER VALUE [BUFFER]` of what is written over a buffer of so many dots, 512 at most.
+pub fn both<W, F>(length: Result<u64, Refusal>, size: u64, out: &mut W, write: F) -> io::Result<()>
+where
+    W: Write,
+    F: FnOnce(&mut [u8]) -> Result<u64, Refusal>,
+    requires { F.IsAlwaysCallable write }
+{
+    let mut space = [b'.'; 512];
+    let n = space.len().min(size as usize);
+    let room = &mut space[..n];
+    let wrote = write(room);
+    told(length, out)?;
+    out.write_all(b" ")?;
+    told(wrote, out)?;
+    answers::buffer(out, room)
 }

@@ -5,17 +5,14 @@
 
 ghost use Rattle.part_answers.specs.Answers.{Writes};
 
-use part_answers::Wrote;
-use parts::Part;
+use part_answers::Refusal;
+use parts::{Part, Sign};
 
 // The text at the start of out. The whole list is checked before the first byte is written.
-#[tactic(auto, using(crate::proofs::Judged::done_is_written))]
-pub fn write(sign: u32, list: &[Part], src: &[u8], out: &mut [u8]) -> Wrote
+pub fn write(sign: Sign, list: &[Part], src: &[u8], out: &mut [u8]) -> Result<u64, Refusal>
     ensures { Writes sign list.now src.now out.old result out.new }
 {
-    let answer = part_steps::judge(part_scan::length(sign, list, src.len()), out.len());
-    if answer.number() == 0 {
-        part_walk::write_before(sign, list, src, out, answer.value() as usize);
-    }
-    answer
+    let need = part_steps::judge(part_scan::length(sign, list, src.len()), out.len())?;
+    part_walk::write_before(sign, list, src, out, need as usize);
+    Ok(need)
 }

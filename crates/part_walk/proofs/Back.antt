@@ -1,76 +1,60 @@
--- A turn of the loop that writes the parts from the last to the first: the parts that are left are the first i, and the last of those is written.
+-- A turn of the loop that writes the parts from the last to the first: the last of the parts that are left is written.
 -- Assumes nothing.
-use mathlib.Core.Path.{◌≡◌, sym, ap, subst, ◌∙◌}
+use mathlib.Core.Path.{◌≡◌, refl}
 use mathlib.Core.Bool.{false}
 use mathlib.Core.List.{List, [], ◌∷◌, ◌++◌}
-use Prim.Native.Nat.{ℕ, zero, suc, ◌-◌, ◌≤◌, ◌<◌}
-use native.Mathlib.Nat.{not-suc-le-zero, le_of_suc-le-suc}
+use Prim.Native.Nat.{ℕ, ◌-◌, ◌≤◌}
 use native.Mathlib.Omega.{arith}
-use lib.ListN.{length, get_or, take}
-use lib.Seq.{take-suc, take_all}
+use lib.ListN.{length}
 use Rattle.buffer.specs.AtEnd.{ended}
-use Rattle.parts.specs.Parts.{sign_text, part_text, text_of, leaves_source, Inside, part_length, true_length, zero_part}
+use Rattle.parts.specs.Parts.{sign_text, part_text, text_of, leaves_source, Inside, part_length, true_length}
 use Rattle.parts.specs.declared.Part.{Part}
+use Rattle.parts.specs.declared.Sign.{Sign}
 use Rattle.parts.proofs.Writing.{Rest, rest-start, rest-room, rest-step, rest-sign-room, rest-sign}
 
--- no part of such a list leaves its source
-inside-at : (n : ℕ) (ps : List Part) (j : ℕ) (d : Part) → Inside n ps → j < length ps → leaves_source n (get_or ps j d) ≡ false
+-- what leaves its source is no part in front, and not the last
+inside-last : (n : ℕ) (ps : List Part) (p : Part) → Inside n (ps ++ (p ∷ [])) → Inside n ps × (leaves_source n p ≡ false)
 unfolding Inside
-inside-at n [] j d h l = absurd (not-suc-le-zero l)
-inside-at n (p ∷ ps) zero d h l = h.0
-inside-at n (p ∷ ps) (suc j) d h l = inside-at n ps j d h.1 (le_of_suc-le-suc l)
+inside-last n [] p h = (tt, h.0)
+inside-last n (q ∷ ps) p h = let r = inside-last n ps p h.1 in ((h.0, r.0), r.1)
 
--- the first i parts of xs are left to write just before the index at of zs
-pub record Turn (sign : ℕ) (src out : List ℕ) (end : ℕ) (xs : List Part) (i at : ℕ) (zs : List ℕ) : Type 0 where
-  pub under : i ≤ length xs
-  pub rest : Rest sign src out end xs (take i xs) at zs
+-- the parts ps of xs are left to write just before the index at of zs
+pub record Turn (sign : Sign) (src out : List ℕ) (end : ℕ) (xs ps : List Part) (at : ℕ) (zs : List ℕ) : Type 0 where
+  pub inside : Inside (length src) ps
+  pub rest : Rest sign src out end xs ps at zs
+
+empty : (ps : List Part) → length ps ≡ 0 → ps ≡ []
+empty [] e = refl
+empty (p ∷ ps) e = absurd (omega arith)
 
 -- before the first turn all are
-pub start : (sign : ℕ) (src out : List ℕ) (end : ℕ) (xs : List Part) → Inside (length src) xs → true_length sign xs ≤ end → end ≤ length out → Turn sign src out end xs (length xs) end out
-start sign src out end xs inside h k = record {
-  under = omega arith;
-  rest = subst (λ (ps : List Part). Rest sign src out end xs ps end out) (sym (take_all (length xs) xs (omega arith))) (rest-start sign src out end xs inside h k);
-}
+pub start : (sign : Sign) (src out : List ℕ) (end : ℕ) (xs : List Part) {ps : List Part} → ps ≡ xs → Inside (length src) xs → true_length sign xs ≤ end → end ≤ length out → Turn sign src out end xs ps end out
+start sign src out end xs e inside h k = rw e (record { inside = inside; rest = rest-start sign src out end xs inside h k })
 
-module _ {sign : ℕ} {src out : List ℕ} {end : ℕ} {xs : List Part} {i at : ℕ} {zs : List ℕ} (t : Turn sign src out end xs i at zs) where
-  -- the last of them
-  abbrev pub here : Part
-  here = get_or xs (i - 1) (zero_part 0)
+module _ {sign : Sign} {src out : List ℕ} {end : ℕ} {xs ls : List Part} {at : ℕ} {zs : List ℕ} (t : Turn sign src out end xs ls at zs) where
+  module _ (ps : List Part) (p : Part) (e : ls ≡ ps ++ (p ∷ [])) where
+    open_turn : Turn sign src out end xs (ps ++ (p ∷ [])) at zs
+    open_turn = rw e at t
 
-  pub in_list : 0 < i → i - 1 < length xs
-  in_list l = omega (arith, t.under)
-
-  left-by-one : 0 < i → Rest sign src out end xs (take (i - 1) xs ++ (here ∷ [])) at zs
-  left-by-one l = subst (λ (ps : List Part). Rest sign src out end xs ps at zs) (ap (λ (k : ℕ). take k xs) one_more ∙ take-suc xs (i - 1) (zero_part 0) (in_list l)) t.rest
-    where
-      one_more : i ≡ suc (i - 1)
-      one_more = omega arith
-
-  none_left : (0 < i → ⊥) → Rest sign src out end xs [] at zs
-  none_left l = subst (λ (k : ℕ). Rest sign src out end xs (take k xs) at zs) at_zero t.rest
-    where
-      at_zero : i ≡ 0
-      at_zero = omega arith
-
-  -- what the sign's writer asks, where no part is left
-  pub sign-room : (0 < i → ⊥) → (length (sign_text sign) ≤ at) × (at ≤ length zs)
-  sign-room l = (rest-sign-room sign src xs (none_left l), t.rest.within)
-
-  module _ (inside : Inside (length src) xs) where
-    here-stays : 0 < i → leaves_source (length src) here ≡ false
-    here-stays l = inside-at (length src) xs (i - 1) (zero_part 0) inside (in_list l)
+    stays : Inside (length src) ps × (leaves_source (length src) p ≡ false)
+    stays = inside-last (length src) ps p open_turn.inside
 
     -- what a part's writer asks
-    pub here-room : 0 < i → (leaves_source (length src) here ≡ false) × (part_length here ≤ at) × (at ≤ length zs)
-    here-room l = (here-stays l, rest-room sign src xs (take (i - 1) xs) here (left-by-one l) (here-stays l), t.rest.within)
+    pub here-room : (leaves_source (length src) p ≡ false) × (part_length p ≤ at) × (at ≤ length zs)
+    here-room = (stays.1, rest-room sign src xs ps p open_turn.rest stays.1, t.rest.within)
 
-    -- what is left once the part is written, and so the turn after t
-    pub rest-next : 0 < i → {r : ℕ} {zs' : List ℕ} → (r ≡ at - part_length here) × (zs' ≡ ended zs at (part_text src here)) → Rest sign src out end xs (take (i - 1) xs) r zs'
-    rest-next l e = rest-step sign src xs (take (i - 1) xs) here (left-by-one l) (here-stays l) e.0 e.1
+    -- what is left once the part is written
+    pub next : {r : ℕ} {zs' : List ℕ} → (r ≡ at - part_length p) × (zs' ≡ ended zs at (part_text src p)) → Turn sign src out end xs ps r zs'
+    next w = record { inside = stays.0; rest = rest-step sign src xs ps p open_turn.rest stays.1 w.0 w.1 }
 
-    pub next : 0 < i → {r : ℕ} {zs' : List ℕ} → (r ≡ at - part_length here) × (zs' ≡ ended zs at (part_text src here)) → Turn sign src out end xs (i - 1) r zs'
-    next l e = record { under = omega (arith, t.under); rest = rest-next l e }
+  module _ (e : length ls ≡ 0) where
+    none_left : Rest sign src out end xs [] at zs
+    none_left = rw (empty ls e) at t.rest
+
+    -- what the sign's writer asks, where no part is left
+    pub sign-room : (length (sign_text sign) ≤ at) × (at ≤ length zs)
+    sign-room = (rest-sign-room sign src xs none_left, t.rest.within)
 
     -- the whole text, once the sign is written behind no part
-    pub all-written : (0 < i → ⊥) → {r : ℕ} {zs' : List ℕ} → (r ≡ at - length (sign_text sign)) × (zs' ≡ ended zs at (sign_text sign)) → (r ≡ end - true_length sign xs) × (zs' ≡ ended out end (text_of sign src xs))
-    all-written l e = rest-sign sign src xs (none_left l) inside e.0 e.1
+    pub all-written : Inside (length src) xs → {r : ℕ} {zs' : List ℕ} → (r ≡ at - length (sign_text sign)) × (zs' ≡ ended zs at (sign_text sign)) → (r ≡ end - true_length sign xs) × (zs' ≡ ended out end (text_of sign src xs))
+    all-written i w = rest-sign sign src xs none_left i w.0 w.1

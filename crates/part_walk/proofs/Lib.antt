@@ -1,3 +1,2 @@
--- The laws of a turn of the loop, and of a buffer that is lent on.
-pub mod Lent
+-- What write_before keeps from turn to turn.
 mod Back

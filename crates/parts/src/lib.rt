@@ -1,107 +1,158 @@
 // Parts of a text: a sign, then zeros, numbers in decimal and copied runs of one lent source. The length and the writing of each.
-// Carries over Part of num/imp/fmt.rs. A kind is a code and a copied run a start and a length, since no enum holds a reference.
+// Carries over Part of num/imp/fmt.rs. By document 01 a copied run is a start and a length in the source, so that one that leaves it is refused.
 #![tactic(auto)]
 
 ghost use Rattle.std.specs.Prelude.{◌≡◌, false, ◌-◌, ◌≤◌, length};
 ghost use Rattle.buffer.specs.AtEnd.{ended};
 ghost use Rattle.digits.specs.Text.{decimal};
-ghost use Rattle.parts.specs.Parts.{sign_text, part_text, leaves_source, part_length, zero_part, num_part, copy_part};
+ghost use Rattle.parts.specs.Parts.{sign_of, sign_text, part_of, part_text, leaves_source, part_length, zero_part, num_part, copy_part};
 
-// A part by its kind code: 0, so many zeros; 1, a number; 2, the run of len bytes of the source from start on.
-#[derive(Clone, Copy)]
-pub struct Part {
-    pub kind: u32,
-    pub number: u16,
-    pub zeros: u64,
-    pub start: u64,
-    pub len: u64,
+// Unknown is a case and no None: a list with such a code is a list, which is refused as OPTIONS in its order (part_answers: checked).
+// A sign: none, a minus or a plus; or that the code given for it is no sign's.
+#[derive(Clone, Copy, Debug, PartialEq, Eq)]
+pub enum Sign {
+    None,
+    Minus,
+    Plus,
+    Unknown,
+}
+
+// The sign of a code: 0 none, 1 minus, 2 plus.
+impl From<u32> for Sign {
+    ghost from_gives = { λ code sign. sign ≡ sign_of code };
+
+    fn from(code: u32) -> Sign {
+        match code {
+            0 => Sign::None,
+            1 => Sign::Minus,
+            2 => Sign::Plus,
+            _ => Sign::Unknown,
+        }
+    }
+}
+
+impl Sign {
+    #[tactic(auto, unfolding(crate::specs::Parts::sign_text))]
+    pub fn length(self) -> u64
+        ensures { result ≡ length (sign_text self) }
+    {
+        match self {
+            Sign::Minus | Sign::Plus => 1,
+            Sign::None | Sign::Unknown => 0,
+        }
+    }
+
+    // The sign just before end; its start is handed back.
+    // The end travels beside the buffer, as in all crates of writers: the crate buffer says why.
+    #[tactic(auto, using(crate::proofs::Writing::ended_nothing, crate::proofs::Writing::ended_byte), unfolding(crate::specs::Parts::sign_text))]
+    pub fn write_before(self, out: &mut [u8], end: usize) -> usize
+        requires { (length (sign_text self) ≤ end) × (end ≤ length out.old) }
+        ensures { (result ≡ end - length (sign_text self)) × (out.new ≡ ended out.old end (sign_text self)) }
+    {
+        let byte = match self {
+            Sign::Minus => b'-',
+            Sign::Plus => b'+',
+            Sign::None | Sign::Unknown => return end,
+        };
+        let at = end - 1;
+        out[at] = byte;
+        at
+    }
+}
+
+// So many zeros, a number, or the run of len bytes of the source from start on; or that the code given for its kind is no part's.
+#[derive(Clone, Copy, Debug, PartialEq, Eq)]
+pub enum Part {
+    Zero(u64),
+    Num(u16),
+    Copy { start: u64, len: u64 },
+    Unknown,
 }
 
 impl Part {
+    // Kept beside the variants: the edits zeros_lost, number_as_a_run and run_from_its_length turn these.
     pub fn zero(n: u64) -> Self
         ensures { result ≡ zero_part n }
     {
-        Part {
-            kind: 0,
-            number: 0,
-            zeros: n,
-            start: 0,
-            len: 0,
-        }
+        Part::Zero(n)
     }
 
     pub fn num(v: u16) -> Self
         ensures { result ≡ num_part v }
     {
-        Part {
-            kind: 1,
-            number: v,
-            zeros: 0,
-            start: 0,
-            len: 0,
-        }
+        Part::Num(v)
     }
 
     pub fn copy(start: u64, len: u64) -> Self
         ensures { result ≡ copy_part start len }
     {
-        Part {
-            kind: 2,
-            number: 0,
-            zeros: 0,
-            start,
-            len,
+        Part::Copy { start, len }
+    }
+
+    // The part of a kind's code and what each kind takes of the rest: 0, the zeros; 1, the number; 2, start and len.
+    pub fn of_kind(kind: u32, number: u16, zeros: u64, start: u64, len: u64) -> Self
+        ensures { result ≡ part_of kind number zeros start len }
+    {
+        match kind {
+            0 => Part::zero(zeros),
+            1 => Part::num(number),
+            2 => Part::copy(start, len),
+            _ => Part::Unknown,
         }
     }
 
-    // The length of the part. `len` in the Rust, which is a field here.
+    // The length of the part. `len` in the Rust.
+    #[tactic(auto, unfolding(crate::specs::Parts::part_length))]
     pub fn length(self) -> u64
         ensures { result ≡ part_length self }
     {
-        if self.kind == 0 {
-            return self.zeros;
+        match self {
+            Part::Zero(zeros) => zeros,
+            Part::Num(number) => digits::digit_count(number as u64) as u64,
+            Part::Copy { len, .. } => len,
+            Part::Unknown => 0,
         }
-        if self.kind == 1 {
-            return digits::digit_count(self.number as u64) as u64;
-        }
-        self.len
     }
 
-    // Whether the part leaves a source of so many bytes: by a difference, since the sum may not fit.
+    // Whether the part leaves a source of so many bytes. Where the sum does not fit, it is beyond every source.
+    #[tactic(auto, unfolding(crate::specs::Parts::leaves_source))]
     pub fn leaves(self, source: usize) -> bool
         ensures { result ≡ leaves_source source self }
     {
-        if self.kind < 2 {
+        let Part::Copy { start: from, len } = self else {
             return false;
+        };
+        match from.checked_add(len) {
+            Some(end) => (source as u64) < end,
+            None => true,
         }
-        let n = source as u64;
-        if n < self.start {
-            return true;
-        }
-        n - self.start < self.len
     }
 
     // The part just before end, where it has room; its start is handed back. A step over parts that are known to be inside.
+    #[tactic(auto, using(crate::proofs::Writing::ended_nothing), unfolding(crate::specs::Parts::part_length, crate::specs::Parts::part_text, crate::specs::Parts::leaves_source))]
     pub fn write_before(self, src: &[u8], out: &mut [u8], end: usize) -> usize
         requires { (leaves_source (length src.now) self ≡ false) × (part_length self ≤ end) × (end ≤ length out.old) }
         ensures { (result ≡ end - part_length self) × (out.new ≡ ended out.old end (part_text src.now self)) }
     {
-        if self.kind == 0 {
-            let count = self.zeros as usize;
-            buffer::fill(b'0', count, out, end);
-            return end - count;
+        match self {
+            Part::Zero(zeros) => {
+                let count = zeros as usize;
+                buffer::fill(b'0', count, out, end);
+                end - count
+            }
+            Part::Num(number) => write_number(number, out, end),
+            Part::Copy { start: from, len } => {
+                let count = len as usize;
+                buffer::copy(src, from as usize, count, out, end);
+                end - count
+            }
+            Part::Unknown => end,
         }
-        if self.kind == 1 {
-            return write_number(self.number, out, end);
-        }
-        let start = self.start as usize;
-        let len = self.len as usize;
-        buffer::copy(src, start, len, out, end);
-        end - len
     }
 }
 
-// The decimal of v just before end, by its last digit first.
+// The decimal of v just before end, by its last digit first. A loop of its own: with a second caller `pairs::write_pairs_before` is no longer
+// written out in the end entries, which then take a call and 615 bytes more.
 fn write_number(v: u16, out: &mut [u8], end: usize) -> usize
     requires { (length (decimal v) ≤ end) × (end ≤ length out.old) }
     ensures { (result ≡ end - length (decimal v)) × (out.new ≡ ended out.old end (decimal v)) }
@@ -115,28 +166,5 @@ fn write_number(v: u16, out: &mut [u8], end: usize) -> usize
     }
     at -= 1;
     out[at] = 48 + rest as u8;
-    at
-}
-
-pub fn sign_length(sign: u32) -> u64
-    ensures { result ≡ length (sign_text sign) }
-{
-    if sign == 0 { 0 } else { 1 }
-}
-
-// The sign just before end.
-pub fn write_sign(sign: u32, out: &mut [u8], end: usize) -> usize
-    requires { (length (sign_text sign) ≤ end) × (end ≤ length out.old) }
-    ensures { (result ≡ end - length (sign_text sign)) × (out.new ≡ ended out.old end (sign_text sign)) }
-{
-    if sign == 0 {
-        return end;
-    }
-    let at = end - 1;
-    if sign == 1 {
-        out[at] = b'-';
-        return at;
-    }
-    out[at] = b'+';
     at
 }

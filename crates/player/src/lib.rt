@@ -12,50 +12,32 @@
 //     # ..                  a heading, which is written as it is
 #![tactic(auto)]
 
-use fields::{lines, output};
+use fields::lines;
+use fields::output::Output;
+use std::io::Write;
 
 mod plain;
 mod typed;
 
-fn answer(line: &[u8], out: &mut [u8; 4096], waiting: usize) -> usize {
-    if line.len() < 2 {
-        return output::put(out, waiting, b'?');
-    }
-    if line[1] != b' ' {
-        return write_lines::answer(line, out, waiting);
-    }
-    match line[0] {
-        b'u' => plain::answer(line, false, out, waiting),
-        b'i' => plain::answer(line, true, out, waiting),
-        b't' => typed::answer(line, out, waiting),
-        b's' => write_lines::answer_short(line, out, waiting),
-        b'#' => output::put_all(out, waiting, line),
-        _ => write_lines::answer(line, out, waiting),
+fn answer<W: Write>(line: &[u8], out: &mut W) -> std::io::Result<()> {
+    match line {
+        [b'u', b' ', row @ ..] => plain::answer(row, false, out),
+        [b'i', b' ', row @ ..] => plain::answer(row, true, out),
+        [b't', b' ', row @ ..] => typed::answer(row, out),
+        [b's', b' ', row @ ..] => write_lines::answer_short(row, out),
+        [b'#', b' ', ..] => out.write_all(line),
+        _ => write_lines::answer(line, out),
     }
 }
 
-// The label, if there is one, and the answer to what is behind it.
-fn answer_labelled(line: &[u8], out: &mut [u8; 4096], waiting: usize) -> usize {
-    let row = lines::row_at(line);
-    let now = lines::put_label(out, waiting, line, row);
-    answer(&line[row..], out, now)
-}
-
-fn play(input: &[u8]) {
-    let mut out = [0u8; 4096];
-    let mut waiting = 0;
-    let mut from = 0;
-    while from < input.len() {
-        let end = lines::find(input, from, b'\n');
-        waiting = answer_labelled(&input[from..end], &mut out, waiting);
-        waiting = output::put(&mut out, waiting, b'\n');
-        from = end + 1;
-    }
-    output::flush(&out, waiting);
-}
-
+// Plays standard input. The output never fails: what it can't write it passes over.
 pub fn run() {
-    let mut all = lines::space();
-    let n = io::read_full(0, &mut all);
-    play(&all[..n]);
+    let mut space = lines::space();
+    let n = io::read_full(0, &mut space);
+    let lines = space[..n].split_inclusive(|byte| *byte == b'\n');
+    let _ = lines::play(
+        lines,
+        &mut Output::new(),
+        |line, out| answer(lines::past_label(line, out)?, out),
+    );
 }

@@ -1,46 +1,50 @@
 // The lines behind `t`: a call of a type's own entry, the value by value.
-use fields::narrow::{half, word};
-use fields::signed::{signed_byte, signed_half, signed_of, signed_word};
-use fields::{field, narrow, output};
-use writing::{Options, Written};
+use fields::answers;
+use fields::held::{held, held_signed};
+use std::io;
+use std::io::Write;
+use write_lines::Call;
+use writing::Written;
 
-fn unsigned(bits: u64, x: u64, format: u32, options: Options, out: &mut [u8]) -> Written {
-    match bits {
-        8 => by_type::write_u8(narrow::byte(x), format, options, out),
-        16 => by_type::write_u16(half(x), format, options, out),
-        32 => by_type::write_u32(word(x), format, options, out),
-        _ => by_type::write_u64(x, format, options, out),
+// The entry of the type, with the value held at the type's ends; 64 bits where they are no other type's.
+fn write(call: Call, room: &mut [u8]) -> Written {
+    let Call {
+        kind,
+        value,
+        format,
+        options,
+    } = call;
+    match (kind.bits, kind.signed) {
+        (8, false) => by_type::write(held::<u8>(value), format, options, room),
+        (16, false) => by_type::write(held::<u16>(value), format, options, room),
+        (32, false) => by_type::write(held::<u32>(value), format, options, room),
+        (_, false) => by_type::write(value, format, options, room),
+        (8, true) => by_type::write(
+            held_signed::<i8>(value.cast_signed()),
+            format,
+            options,
+            room,
+        ),
+        (16, true) => by_type::write(
+            held_signed::<i16>(value.cast_signed()),
+            format,
+            options,
+            room,
+        ),
+        (32, true) => by_type::write(
+            held_signed::<i32>(value.cast_signed()),
+            format,
+            options,
+            room,
+        ),
+        (_, true) => by_type::write(value.cast_signed(), format, options, room),
     }
-}
-
-fn signed(bits: u64, p: u64, format: u32, options: Options, out: &mut [u8]) -> Written {
-    match bits {
-        8 => by_type::write_i8(signed_byte(p), format, options, out),
-        16 => by_type::write_i16(signed_half(p), format, options, out),
-        32 => by_type::write_i32(signed_word(p), format, options, out),
-        _ => by_type::write_i64(signed_of(p), format, options, out),
-    }
-}
-
-// The entry of the type, the value by value; 64 bits where they are no other type's.
-fn typed(fields: &[u64; 40], out: &mut [u8]) -> Written {
-    let format = word(fields[3]);
-    let options = write_lines::options_of(fields);
-    if fields[1] != 0 {
-        return signed(fields[0], fields[2], format, options, out);
-    }
-    unsigned(fields[0], fields[2], format, options, out)
 }
 
 // The 13 numbers of a call with its room.
-pub fn answer(line: &[u8], out: &mut [u8; 4096], waiting: usize) -> usize {
-    let mut fields = [0u64; 40];
-    if field::numbers_at(line, 2, &mut fields) != 13 {
-        return output::put(out, waiting, b'?');
+pub fn answer<W: Write>(row: &[u8], out: &mut W) -> io::Result<()> {
+    match Call::of(row) {
+        Some((call, Some(size))) => write_lines::over(size, out, move |room| write(call, room)),
+        _ => answers::unknown(out),
     }
-    let mut space = [b'.'; 512];
-    let n = narrow::within(fields[12] as usize, &space);
-    let room = &mut space[..n];
-    let written = typed(&fields, room);
-    write_lines::shown(written, room, out, waiting)
 }

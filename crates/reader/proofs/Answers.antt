@@ -1,5 +1,6 @@
--- The answer for a canonical text, from the number that it was found to be. Over the bits, the base and the alphabet.
+-- The answer for a text, from what it was found to be: of any form whose texts have a sign and a magnitude, and of the patterns of a base.
 -- Assumes nothing.
+use Rattle.std.specs.Prelude.{Ok, Err}
 use mathlib.Core.Bool.{Bool, true, false, cond, true≢false}
 use mathlib.Core.List.{List}
 use mathlib.Core.Path.{◌≡◌, refl, sym, ap, ap₂, ◌∙◌}
@@ -11,12 +12,11 @@ use borrow.Author.Tests.{ltb-true, ltb-false, lt-ltb}
 use lib.Dec.{ltb}
 use lib.IntN.{ℤ, nat_abs}
 use lib.Pow.{pow_mono}
-use Rattle.digits.specs.Digits.{value}
 use Rattle.kinds.specs.Kinds.{is_in_type, pattern, meaning, reading}
 use Rattle.kinds.proofs.Patterns.{halves, pattern-reading, in-low, in-high}
 use Rattle.radix.specs.Radix.{lower}
 use Rattle.scientific.specs.Shape.{number}
-use Rattle.scientific.specs.Canonical.{magnitude}
+use Rattle.scientific.specs.Canonical.{CanonicalParts, magnitude}
 use Rattle.scientific.proofs.Canonical.{denotes-magnitude}
 use Rattle.scientific.proofs.Demand.{one_value}
 use Rattle.scientific.proofs.Tens as T
@@ -24,89 +24,92 @@ use Rattle.reading.specs.Form.{Form, Reads}
 use Rattle.reading.specs.Formats.{whole, decimal_form, radix_form, exponent_form}
 use Rattle.reading.proofs.Faithful.{sign_of, nat_abs-lt, pattern_lt}
 use Rattle.reader.specs.Answers.{Judges}
-use Rattle.outcomes.specs.Outcomes.{value_outcome, pattern_outcome}
-use Rattle.whole_texts.specs.Wholes.{IsNumber}
-use Rattle.exponent_texts.specs.Exponents.{IsExponent}
-use Rattle.outcomes.specs.declared.Outcome.{Outcome}
-use Rattle.outcomes.specs.declared.Outcome.TheVariants as outcome
+use Rattle.outcomes.specs.Outcomes.{Outcome, value_outcome, pattern_outcome}
+use Rattle.kinds.specs.declared.Split.{Split}
+use Rattle.outcomes.specs.Found.{Numbered, IsNumber, IsBeyond, Found}
+use Rattle.outcomes.specs.declared.Fault.{Fault}
+use Rattle.outcomes.specs.declared.Fault.TheVariants as fault
+use Rattle.scientific.specs.Shape.{Parts}
+use Rattle.whole_texts.specs.Wholes.{wholes}
+use Rattle.exponent_texts.specs.Exponents.{exponents}
 
-module _ (sgn : Bool) (bits : ℕ) (t : List ℕ) (one : 1 ≤ bits) (few : bits ≤ 64) where
-  wide : 2 ^ bits ≤ 2 ^ 64
-  wide = pow_mono few
+-- The texts of a form stand for their sign and magnitude, and for no other number.
+pub record Counts (sgn : Bool) (N : Numbered) (Stands : N.shape.Parts → ℤ → Type 0) : Type 0 where
+  pub signed : {t : List ℕ} (x : N.shape.Parts) → Reads N.shape t x → N.minus x ≡ true → sgn ≡ true
+  pub some : (x : N.shape.Parts) → N.Canonical x → N.minus x ≡ true → N.magnitude x ≡ 0 → ⊥
+  pub stands : (x : N.shape.Parts) → N.Canonical x → Stands x (whole (N.minus x) (N.magnitude x))
+  pub only : (x : N.shape.Parts) → N.Canonical x → (z : ℤ) → Stands x z → z ≡ whole (N.minus x) (N.magnitude x)
+
+pub decimals : (sgn : Bool) → Counts sgn (wholes sgn lower 10) (decimal_form sgn).Stands
+decimals sgn = record { signed = λ x R. R.shaped.minus; some = λ x K. K.minus; stands = λ x K. refl; only = λ x K z S. S }
+
+pub scientific : (sgn : Bool) (letter : ℕ) → Counts sgn (exponents sgn letter) (exponent_form sgn letter).Stands
+scientific sgn letter = record {
+  signed = λ x R. R.shaped.minus;
+  some = λ x K. nonzero x K;
+  stands = λ x K. (magnitude x, denotes-magnitude x K, refl);
+  only = λ x K z S. S.2 ∙ ap (whole x.minus) (one_value (number x) S.0 (magnitude x) S.1 (denotes-magnitude x K));
+}
+  where
+    nonzero : (x : Parts) → CanonicalParts x → x.minus ≡ true → magnitude x ≡ 0 → ⊥
+    nonzero x K e z = let c : ((number x).coef ≡ 0 → ⊥) = K.minus e in let p = mul-pos {m = (number x).coef} {n = 10 ^ ((number x).expo - (number x).frac)} (omega arith) (T.pos _) in omega arith
+
+module _ (sgn : Bool) (bits : ℕ) (t : List ℕ) (one : 1 ≤ bits) where
+  module _ (N : Numbered) (Stands : N.shape.Parts → ℤ → Type 0) where
+    abbrev F : Form
+    F = record { shape = N.shape; Canonical = N.Canonical; Stands = Stands }
+
+    -- no number was found
+    pub refused : (IsBeyond N t → Judges F sgn bits t (Err fault.Range)) → (e : Fault) → Found N t (Err e) → Judges F sgn bits t (Err e)
+    refused over (fault.Shape k) p = p
+    refused over fault.NotCanonical p = record { parts = p.0; reads = p.1; broken = p.2 }
+    refused over fault.Range p = over p
+    refused over fault.Empty p = absurd p
+    refused over fault.Type p = absurd p
+    refused over fault.Options p = absurd p
 
   -- ---- a magnitude behind a minus or none
 
-  module _ (F : Form) (x : F.shape.Parts) (R : Reads F.shape t x) (K : F.Canonical x) (m : Bool) (n : ℕ) (some : m ≡ true → n ≡ 0 → ⊥) (stands : F.Stands x (whole m n)) (only : (z : ℤ) → F.Stands x z → z ≡ whole m n) where
-    magnitude-over : 2 ^ 64 ≤ n → Judges F sgn bits t outcome.Range
-    magnitude-over h = record { parts = x; reads = R; canonical = K; outside = λ z p S. out z p (only z S) }
+  module _ (few : bits ≤ 64) {N : Numbered} {Stands : N.shape.Parts → ℤ → Type 0} (C : Counts sgn N Stands) where
+    abbrev form : Form
+    form = record { shape = N.shape; Canonical = N.Canonical; Stands = Stands }
+
+    pub signs : {n : Split} → IsNumber N t n → n.negative ≡ true → sgn ≡ true
+    signs P e = C.signed P.parts P.reads (P.sign ∙ e)
+
+    pub some : {n : Split} → IsNumber N t n → n.negative ≡ true → 0 < n.magnitude
+    some {n} P e = let h : (n.magnitude ≡ 0 → ⊥) = λ z. C.some P.parts P.canonical (P.sign ∙ e) (sym P.held ∙ z) in omega arith
+
+    pub over : IsBeyond N t → Judges form sgn bits t (Err fault.Range)
+    over B = record { parts = B.parts; reads = B.reads; canonical = B.canonical; outside = λ z p S. out z p (C.only B.parts B.canonical z S) }
       where
-        out : (z : ℤ) → is_in_type sgn bits z ≡ true → z ≡ whole m n → ⊥
-        out z p e = let l : nat_abs z ≡ n = ap nat_abs e ∙ (sign_of m n some).1 in omega (arith, nat_abs-lt sgn bits z one p, wide)
+        out : (z : ℤ) → is_in_type sgn bits z ≡ true → z ≡ whole (N.minus B.parts) (N.magnitude B.parts) → ⊥
+        out z p e =
+            let l : nat_abs z ≡ N.magnitude B.parts = ap nat_abs e ∙ (sign_of (N.minus B.parts) (N.magnitude B.parts) (C.some B.parts B.canonical)).1 in
+            omega (arith, nat_abs-lt sgn bits z one p, pow_mono few, B.beyond)
 
-    magnitude-held : {r : Outcome} → r ≡ value_outcome sgn bits (whole m n) → Judges F sgn bits t r
-    magnitude-held {r} e = go (is_in_type sgn bits (whole m n)) refl e
+    pub held : {n : Split} → IsNumber N t n → {r : Outcome} → r ≡ value_outcome sgn bits (whole n.negative n.magnitude) → Judges form sgn bits t r
+    held {n} P {r} e = go (is_in_type sgn bits z) refl (e ∙ ap₂ (λ (m : Bool) (k : ℕ). value_outcome sgn bits (whole m k)) (sym P.sign) P.held)
       where
-        go : (k : Bool) → is_in_type sgn bits (whole m n) ≡ k → r ≡ cond k (outcome.Done (pattern 64 (whole m n))) outcome.Range → Judges F sgn bits t r
-        go true p e = rw e (record { parts = x; reads = R; canonical = K; number = whole m n; inside = p; stands = stands; pattern = refl })
-        go false p e = rw e (record { parts = x; reads = R; canonical = K; outside = λ z q S. true≢false (sym q ∙ ap (is_in_type sgn bits) (only z S) ∙ p) })
+        z : ℤ
+        z = whole (N.minus P.parts) (N.magnitude P.parts)
 
-  -- ---- decimal
-
-  module _ {m : Bool} {v : ℕ} {over : Bool} (N : IsNumber sgn lower 10 t m v over) where
-    pub minus-signed : m ≡ true → sgn ≡ true
-    minus-signed e = N.reads.shaped.minus (N.sign ∙ e)
-
-    some : m ≡ true → value 10 N.parts.digits ≡ 0 → ⊥
-    some e = N.canonical.minus (N.sign ∙ e)
-
-    pub minus-some : over ≡ false → m ≡ true → 0 < v
-    minus-some o e = let h : (v ≡ 0 → ⊥) = λ z. some e (sym (N.held o) ∙ z) in omega arith
-
-    is : whole m (value 10 N.parts.digits) ≡ whole N.parts.minus (value 10 N.parts.digits)
-    is = ap (λ (k : Bool). whole k (value 10 N.parts.digits)) (sym N.sign)
-
-    pub decimal-over : over ≡ true → Judges (decimal_form sgn) sgn bits t outcome.Range
-    decimal-over o = magnitude-over (decimal_form sgn) N.parts N.reads N.canonical m (value 10 N.parts.digits) some is (λ z S. S ∙ sym is) (N.beyond o)
-
-    pub decimal-held : {r : Outcome} → over ≡ false → r ≡ value_outcome sgn bits (whole m v) → Judges (decimal_form sgn) sgn bits t r
-    decimal-held o e = magnitude-held (decimal_form sgn) N.parts N.reads N.canonical m (value 10 N.parts.digits) some is (λ z S. S ∙ sym is) (e ∙ ap (λ (n : ℕ). value_outcome sgn bits (whole m n)) (N.held o))
-
-  -- ---- exponent form
-
-  module _ (letter : ℕ) {m : Bool} {v : ℕ} {over : Bool} (N : IsExponent sgn letter t m v over) where
-    pub exponent-signed : m ≡ true → sgn ≡ true
-    exponent-signed e = N.reads.shaped.minus (N.sign ∙ e)
-
-    exponent-nonzero : m ≡ true → magnitude N.parts ≡ 0 → ⊥
-    exponent-nonzero e z = let c : ((number N.parts).coef ≡ 0 → ⊥) = N.canonical.minus (N.sign ∙ e) in let p = mul-pos {m = (number N.parts).coef} {n = 10 ^ ((number N.parts).expo - (number N.parts).frac)} (omega arith) (T.pos _) in omega arith
-
-    pub exponent-some : over ≡ false → m ≡ true → 0 < v
-    exponent-some o e = let h : (v ≡ 0 → ⊥) = λ z. exponent-nonzero e (sym (N.held o) ∙ z) in omega arith
-
-    denoted : (exponent_form sgn letter).Stands N.parts (whole m (magnitude N.parts))
-    denoted = (magnitude N.parts, denotes-magnitude N.parts N.canonical, ap (λ (k : Bool). whole k (magnitude N.parts)) (sym N.sign))
-
-    alone : (z : ℤ) → (exponent_form sgn letter).Stands N.parts z → z ≡ whole m (magnitude N.parts)
-    alone z S = S.2 ∙ ap₂ whole N.sign (one_value (number N.parts) S.0 (magnitude N.parts) S.1 (denotes-magnitude N.parts N.canonical))
-
-    pub exponent-over : over ≡ true → Judges (exponent_form sgn letter) sgn bits t outcome.Range
-    exponent-over o = magnitude-over (exponent_form sgn letter) N.parts N.reads N.canonical m (magnitude N.parts) exponent-nonzero denoted alone (N.beyond o)
-
-    pub exponent-held : {r : Outcome} → over ≡ false → r ≡ value_outcome sgn bits (whole m v) → Judges (exponent_form sgn letter) sgn bits t r
-    exponent-held o e = magnitude-held (exponent_form sgn letter) N.parts N.reads N.canonical m (magnitude N.parts) exponent-nonzero denoted alone (e ∙ ap (λ (n : ℕ). value_outcome sgn bits (whole m n)) (N.held o))
+        go : (k : Bool) → is_in_type sgn bits z ≡ k → r ≡ cond k (Ok (pattern 64 z)) (Err fault.Range) → Judges form sgn bits t r
+        go true p e = rw e (record { parts = P.parts; reads = P.reads; canonical = P.canonical; number = z; inside = p; stands = C.stands P.parts P.canonical; pattern = refl })
+        go false p e = rw e (record { parts = P.parts; reads = P.reads; canonical = P.canonical; outside = λ y q S. true≢false (sym q ∙ ap (is_in_type sgn bits) (C.only P.parts P.canonical y S) ∙ p) })
 
   -- ---- the pattern of the type's bits
 
-  module _ (α : ℕ → ℕ) (b : ℕ) {m : Bool} {v : ℕ} {over : Bool} (N : IsNumber false α b t m v over) where
-    beyond : 2 ^ bits ≤ value b N.parts.digits → Judges (radix_form α b bits) sgn bits t outcome.Range
-    beyond h = record { parts = N.parts; reads = N.reads; canonical = N.canonical; outside = λ z p e. omega (arith, pattern_lt sgn bits z one p) }
+  module _ (α : ℕ → ℕ) (b : ℕ) where
+    pub radix-over : bits ≤ 64 → IsBeyond (wholes false α b) t → Judges (radix_form α b bits) sgn bits t (Err fault.Range)
+    radix-over few B = record { parts = B.parts; reads = B.reads; canonical = B.canonical; outside = λ z p e. omega (arith, pattern_lt sgn bits z one p, pow_mono few, B.beyond) }
 
-    pub radix-over : over ≡ true → Judges (radix_form α b bits) sgn bits t outcome.Range
-    radix-over o = beyond (omega (arith, wide, N.beyond o))
-
-    pub radix-held : {r : Outcome} → over ≡ false → r ≡ pattern_outcome sgn bits v → Judges (radix_form α b bits) sgn bits t r
-    radix-held {r} o e = go (ltb v (2 ^ bits)) refl e
+    pub radix-held : {n : Split} → IsNumber (wholes false α b) t n → {r : Outcome} → r ≡ pattern_outcome sgn bits n.magnitude → Judges (radix_form α b bits) sgn bits t r
+    radix-held {n} N {r} e = go (ltb v (2 ^ bits)) refl e
       where
+        v : ℕ
+        v = n.magnitude
+
         inside : (s : Bool) → v < 2 ^ bits → is_in_type s bits (meaning bits s v) ≡ true
         inside false h = lt-ltb v (2 ^ bits) h
         inside true h = half (dec_le (2 ^ (bits - 1)) v)
@@ -119,7 +122,7 @@ module _ (sgn : Bool) (bits : ℕ) (t : List ℕ) (one : 1 ≤ bits) (few : bits
         back false h = refl
         back true h = sym (pattern-reading bits v h)
 
-        go : (k : Bool) → ltb v (2 ^ bits) ≡ k → r ≡ cond k (outcome.Done (pattern 64 (meaning bits sgn v))) outcome.Range → Judges (radix_form α b bits) sgn bits t r
+        go : (k : Bool) → ltb v (2 ^ bits) ≡ k → r ≡ cond k (Ok (pattern 64 (meaning bits sgn v))) (Err fault.Range) → Judges (radix_form α b bits) sgn bits t r
         go true p e =
             let h = ltb-true v (2 ^ bits) p in
             rw e
@@ -129,7 +132,7 @@ module _ (sgn : Bool) (bits : ℕ) (t : List ℕ) (one : 1 ≤ bits) (few : bits
               canonical = N.canonical;
               number = meaning bits sgn v;
               inside = inside sgn h;
-              stands = sym (N.held o) ∙ back sgn h;
+              stands = sym N.held ∙ back sgn h;
               pattern = refl;
             })
-        go false p e = rw e (beyond (omega (arith, N.held o, ltb-false v (2 ^ bits) p)))
+        go false p e = rw e (record { parts = N.parts; reads = N.reads; canonical = N.canonical; outside = λ z q f. omega (arith, pattern_lt sgn bits z one q, N.held, ltb-false v (2 ^ bits) p) })

@@ -2,7 +2,7 @@
 -- Over the bits, the base and the alphabet. Assumes nothing.
 use mathlib.Core.Bool.{Bool, true, false, false≢true}
 use mathlib.Core.List.{List, ◌∷◌, ◌++◌, map}
-use mathlib.Core.Option.{none}
+use Rattle.std.specs.Prelude.{None}
 use mathlib.Core.Path.{◌≡◌, refl, sym, ap, ap₂, ◌∙◌}
 use Prim.Native.Nat.{ℕ, zero, suc, ◌+◌, ◌-◌, ◌^◌, ◌≤◌, ◌<◌}
 use native.Mathlib.Nat.{lt_trans}
@@ -176,7 +176,7 @@ module _ (sgn : Bool) (bits letter : ℕ) (one : 1 ≤ bits) (small : 2 ^ bits <
           let P = canonical-plain {signed = sgn} {letter = letter} {t = written letter x} {x = x} (record { shaped = h; text = refl }) K in
           let m : magnitude x ≡ n = one_value (number x) (magnitude x) n (denotes-magnitude x K) d in
           let s = sign_of x.minus (magnitude x) (λ p q. omega (arith, P.pos p)) in
-          let w = ap₂ (λ (m : Bool) (n : ℕ). sign m ++ exp_text letter none n) s.0 s.1 in
+          let w = ap₂ (λ (m : Bool) (n : ℕ). sign m ++ exp_text letter None n) s.0 s.1 in
           P.text ∙ sym w ∙ ap (λ (n : ℕ). exponent_text letter (whole x.minus n)) m ∙ ap (exponent_text letter) (sym e)
 
       from : (z : ℤ) → is_in_type sgn bits z ≡ true → (x : Parts) × Shaped sgn x × CanonicalParts x × ((n : ℕ) × Denotes (number x) n × (z ≡ whole x.minus n)) × (exponent_text letter z ≡ written letter x)
@@ -203,7 +203,7 @@ behind m u h = rw (length-append (sign m) u) (omega arith)
 
 exponent-some : (letter : ℕ) (z : ℤ) → 0 < length (exponent_text letter z)
 unfolding exp_text layout
-exponent-some letter z = behind (negative z) (exp_text letter none (nat_abs z)) (omega arith)
+exponent-some letter z = behind (negative z) (exp_text letter None (nat_abs z)) (omega arith)
 
 pub plain-some : (bits format : ℕ) (z : ℤ) → 0 < length (plain bits format z)
 unfolding plain

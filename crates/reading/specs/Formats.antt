@@ -1,6 +1,5 @@
 -- The seven formats by their code (document 01, "Inputs", "Reading"), and the plain text of a value in each.
-use Rattle.std.specs.Prelude.{Bool, true, false, List, ◌++◌, ◌≡◌, ℕ, zero, suc, ℤ, pos, negsuc, nat_abs}
-use Rattle.std.proofs.Math.Option.{none}
+use Rattle.std.specs.Prelude.{None, Bool, true, false, List, ◌++◌, ◌≡◌, ℕ, zero, suc, ℤ, pos, negsuc, nat_abs}
 use Rattle.digits.specs.Digits.{value}
 use Rattle.digits.specs.Text.{signed}
 use Rattle.kinds.specs.Kinds.{pattern, negative}
@@ -54,7 +53,7 @@ form sgn bits format =
 
 -- The exponent text of a whole number, without precision.
 abbrev pub exponent_text : ℕ → ℤ → List ℕ
-exponent_text letter z = sign (negative z) ++ exp_text letter none (nat_abs z)
+exponent_text letter z = sign (negative z) ++ exp_text letter None (nat_abs z)
 
 -- The plain text of a value of a type: no plus, prefix, padding or precision.
 unfoldable pub plain : ℕ → ℕ → ℤ → List ℕ

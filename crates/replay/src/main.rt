@@ -3,6 +3,7 @@
 // values, as many as the Makefile says. What a line is stands at the head of crates/player.
 #![tactic(auto)]
 
+// Each program is a crate with a main of its own, one call long.
 fn main() {
     player::run();
 }

@@ -3,6 +3,7 @@
 // head of crates/part_lines.
 #![tactic(auto)]
 
+// Each program is a crate with a main of its own, one call long.
 fn main() {
     part_lines::run();
 }

@@ -1,6 +1,6 @@
 -- The coefficient and the exponent of n, by the values that the code computes: with a precision in three ways, and without by dropping zeros.
 -- Assumes nothing.
-use mathlib.Core.Option.{none, some}
+use Rattle.std.specs.Prelude.{None, Some}
 use mathlib.Core.Path.{◌≡◌, refl, sym, ◌∙◌}
 use Prim.Native.Nat.{ℕ, suc, ◌+◌, ◌-◌, ◌*◌, ◌/◌, ◌%◌, ◌^◌, ◌≤◌, ◌<◌}
 use native.Mathlib.Nat.{add-zero, mul-one, mul_assoc, mul_comm, pow-zero, pow-suc, le_trans, le_of_eq, le_refl, div-add-mod', div-mul-le_self, mul-le-mul_left, mul-pos}
@@ -29,7 +29,7 @@ plain s m f k e = rw (pow-zero, mul-one, add-zero) e
 -- ---- with precision p, for n of e + 1 digits
 
 module _ (n p e : ℕ) (is : e ≡ exponent_of n) (twenty : n < 10 ^ 20) where
-  pub scales-long : e ≤ p → p ≤ 65535 → Scales (some p) n (record { coef = n; coef_prec = e; more_prec = p - e; exp = e })
+  pub scales-long : e ≤ p → p ≤ 65535 → Scales (Some p) n (record { coef = n; coef_prec = e; more_prec = p - e; exp = e })
   unfolding sci
   scales-long l h =
       let f : exponent_of n + (p - exponent_of n) ≡ p = omega arith in
@@ -47,7 +47,7 @@ module _ (n p e : ℕ) (is : e ≡ exponent_of n) (twenty : n < 10 ^ 20) where
     at-scale = rw (← is, ← scale) (sym quotient)
 
     -- the quotient has reached the next power of ten
-    pub scales-carry : q ≡ 10 ^ (p + 1) → Scales (some p) n (record { coef = q / 10; coef_prec = p; more_prec = 0; exp = e + 1 })
+    pub scales-carry : q ≡ 10 ^ (p + 1) → Scales (Some p) n (record { coef = q / 10; coef_prec = p; more_prec = 0; exp = e + 1 })
     unfolding sci
     scales-carry h =
         let g : q ≡ 10 ^ p * 10 = h ∙ rw (add-one p) (pow-suc 10 p) in
@@ -62,7 +62,7 @@ module _ (n p e : ℕ) (is : e ≡ exponent_of n) (twenty : n < 10 ^ 20) where
           high = omega arith;
         })
 
-    pub scales-stay : (q ≡ 10 ^ (p + 1) → ⊥) → Scales (some p) n (record { coef = q; coef_prec = p; more_prec = 0; exp = e })
+    pub scales-stay : (q ≡ 10 ^ (p + 1) → ⊥) → Scales (Some p) n (record { coef = q; coef_prec = p; more_prec = 0; exp = e })
     unfolding sci
     scales-stay h =
         let l : p < exponent_of n = omega arith in
@@ -79,7 +79,7 @@ module _ (n p e : ℕ) (is : e ≡ exponent_of n) (twenty : n < 10 ^ 20) where
 -- ---- without precision
 
 module _ (n e : ℕ) (is : e ≡ exponent_of n) (twenty : n < 10 ^ 20) where
-  scales-short : (m f : ℕ) → short n ≡ record { coef = m; frac = f; expo = exponent_of n } → exponent_of m ≡ f → f ≤ e → Scales none n (record { coef = m; coef_prec = f; more_prec = 0; exp = e })
+  scales-short : (m f : ℕ) → short n ≡ record { coef = m; frac = f; expo = exponent_of n } → exponent_of m ≡ f → f ≤ e → Scales None n (record { coef = m; coef_prec = f; more_prec = 0; exp = e })
   unfolding sci
   scales-short m f s l h =
       let t = T.le 19 n twenty in
@@ -92,7 +92,7 @@ module _ (n e : ℕ) (is : e ≡ exponent_of n) (twenty : n < 10 ^ 20) where
       }
 
   -- one digit has no fraction
-  pub scales-one : n < 10 → Scales none n (record { coef = n; coef_prec = e; more_prec = 0; exp = e })
+  pub scales-one : n < 10 → Scales None n (record { coef = n; coef_prec = e; more_prec = 0; exp = e })
   scales-one h =
       let z : exponent_of n ≡ 0 = T.small n h in
       let f : exponent_of n - 0 ≡ e = omega arith in
@@ -131,7 +131,7 @@ module _ {n e m f : ℕ} (D : Drops n e m f) (is : e ≡ exponent_of n) where
           go (no y) = absurd (let z : x ≡ 0 = omega arith in let v : 0 * 10 ^ k ≡ m = rw z at w in omega (arith, D.some))
 
   -- none is left to drop
-  pub drops-done : n < 10 ^ 20 → (m % 10 ≡ 0 → ⊥) → Scales none n (record { coef = m; coef_prec = f; more_prec = 0; exp = e })
+  pub drops-done : n < 10 ^ 20 → (m % 10 ≡ 0 → ⊥) → Scales None n (record { coef = m; coef_prec = f; more_prec = 0; exp = e })
   drops-done twenty h =
       let l = D.fewer in
       let g : m * 10 ^ (exponent_of n - f) ≡ n = rw (← is) D.same in

@@ -1,14 +1,7 @@
 -- The arithmetic that the code does for the exponent form: how it stands to the definitions of `scientific`.
-use Rattle.std.proofs.Math.Option.{Option, none, some}
-use Rattle.std.specs.Prelude.{◌≡◌, ℕ, ◌+◌, ◌*◌, ◌^◌, ◌≤◌}
+use Rattle.std.specs.Prelude.{Option, ◌≡◌, ℕ, ◌+◌, ◌*◌, ◌^◌, ◌≤◌}
 use Rattle.scientific.specs.Sci.{exponent_of, sci}
-use Rattle.scaling.specs.declared.Precision.{Precision}
-use Rattle.scaling.specs.declared.Precision.TheVariants as precision
 use Rattle.scaling.specs.declared.Scaled.{Scaled}
-
-abbrev pub precision_of : Precision → Option ℕ
-precision_of precision.None = none
-precision_of (precision.Digits p) = some p
 
 -- The digits of coef and more_prec zeros behind them are the coefficient of n; coef has one digit in front of the point.
 pub record Scales (p : Option ℕ) (n : ℕ) (s : Scaled) : Type 0 where

@@ -2,17 +2,9 @@
 // Carries over the first half of impl_Exp! of fmt/num.rs. checked_ilog10 becomes the count of digits, checked_pow the table of powers.
 #![tactic(auto)]
 
-ghost use Rattle.std.proofs.Math.Option.{none, some};
-ghost use Rattle.std.specs.Prelude.{◌≡◌, ◌≤◌};
+ghost use Rattle.std.specs.Prelude.{None, Some, ◌≡◌, ◌≤◌};
 ghost use Rattle.scientific.specs.Sci.{exponent_of, up, rounded};
-ghost use Rattle.scaling.specs.Coefficient.{precision_of, Scales};
-
-// How many digits stand behind the point: as many as are needed, or so many.
-#[derive(Clone, Copy)]
-pub enum Precision {
-    None,
-    Digits(u16),
-}
+ghost use Rattle.scaling.specs.Coefficient.{Scales};
 
 // The digits of coef, coef_prec of them behind the point, and more_prec zeros behind those; the exponent.
 #[derive(Clone, Copy)]
@@ -50,7 +42,7 @@ fn scale_down(coef: u64, scale: u64) -> u64
 // With a precision: zeros behind the digits of n, or digits dropped. A quotient that is rounded up to the next power of ten loses its last zero.
 fn fixed(n: u64, exp: usize, fmt_prec: usize) -> Scaled
     requires { (exp ≡ exponent_of n) × (fmt_prec ≤ 65535) }
-    ensures { Scales (some fmt_prec) n result }
+    ensures { Scales (Some fmt_prec) n result }
 {
     if exp <= fmt_prec {
         return Scaled {
@@ -82,7 +74,7 @@ fn fixed(n: u64, exp: usize, fmt_prec: usize) -> Scaled
 #[tactic(auto, using(crate::proofs::LastZeros::last_zeros))]
 fn short(n: u64, exp: usize) -> Scaled
     requires { exp ≡ exponent_of n }
-    ensures { Scales none n result }
+    ensures { Scales None n result }
 {
     if n < 10 {
         return Scaled {
@@ -94,6 +86,7 @@ fn short(n: u64, exp: usize) -> Scaled
     }
     let mut coef = n;
     let mut coef_prec = exp;
+    // Over the number, whose last zeros are no list: no `for`.
     while coef % 10000 == 0 {
         coef = coef / 10000;
         coef_prec -= 4;
@@ -116,7 +109,7 @@ fn short(n: u64, exp: usize) -> Scaled
 
 // The coefficient and the exponent of n without precision. Most numbers have no trailing zero: they are told first.
 pub fn in_full(n: u64) -> Scaled
-    ensures { Scales none n result }
+    ensures { Scales None n result }
 {
     let exp = digits::digit_count(n) - 1;
     if n % 10 != 0 {
@@ -130,12 +123,12 @@ pub fn in_full(n: u64) -> Scaled
     short(n, exp)
 }
 
-// The coefficient and the exponent of n.
-pub fn scale(n: u64, precision: Precision) -> Scaled
-    ensures { Scales (precision_of precision) n result }
+// The coefficient and the exponent of n, with so many digits behind the point, or as many as are needed.
+pub fn scale(n: u64, precision: Option<u16>) -> Scaled
+    ensures { Scales precision n result }
 {
     match precision {
-        Precision::None => in_full(n),
-        Precision::Digits(fmt_prec) => { fixed(n, digits::digit_count(n) - 1, fmt_prec as usize) }
+        None => in_full(n),
+        Some(fmt_prec) => { fixed(n, digits::digit_count(n) - 1, fmt_prec as usize) }
     }
 }

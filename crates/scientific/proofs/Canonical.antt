@@ -2,7 +2,7 @@
 -- Assumes nothing.
 use mathlib.Core.Bool.{Bool, true}
 use mathlib.Core.List.{List, [], ◌∷◌, ◌++◌}
-use mathlib.Core.Option.{none}
+use Rattle.std.specs.Prelude.{None}
 use mathlib.Core.Path.{◌≡◌, refl, sym, ap, ◌∙◌, subst}
 use Prim.Native.Nat.{ℕ, zero, suc, ◌-◌, ◌*◌, ◌/◌, ◌%◌, ◌^◌, ◌≤◌, ◌<◌}
 use native.Mathlib.Nat.{mul-le-mul_right, mul-lt-mul_of_pos_right, mul-pos, pow-suc}
@@ -91,7 +91,7 @@ module _ (x : Parts) (signed : Bool) (Sh : Shaped signed x) (K : CanonicalParts 
       let b : 10 ^ length x.expo ≤ 10 ^ 2 = T.powers Sh.two in
       omega arith
 
-  written-again : (letter : ℕ) → written letter x ≡ sign x.minus ++ exp_text letter none (magnitude x)
+  written-again : (letter : ℕ) → written letter x ≡ sign x.minus ++ exp_text letter None (magnitude x)
   unfolding exp_text sci
   written-again letter =
       sym (ap (λ (s : Sci). sign x.minus ++ layout letter s) number_short

@@ -2,7 +2,7 @@
 -- Assumes nothing.
 use mathlib.Core.Bool.{false}
 use mathlib.Core.List.{List, [], ◌∷◌, ◌++◌}
-use mathlib.Core.Option.{none, some}
+use Rattle.std.specs.Prelude.{None, Some}
 use mathlib.Core.Path.{◌≡◌, refl, sym, ap, ◌∙◌, subst}
 use Prim.Native.Nat.{ℕ, suc, ◌+◌, ◌-◌, ◌*◌, ◌/◌, ◌%◌, ◌^◌, ◌≤◌, ◌<◌}
 use native.Mathlib.Nat.{eq_of_mul-eq-mul_right, le-div_iff_mul-le}
@@ -58,12 +58,12 @@ facts n p =
           (subst (λ (k : ℕ). (number y).coef < 10 ^ suc k) e (value-lt 10 T.ten (y.lead ∷ y.frac) (r.shaped.lead, r.shaped.frac)));
     }
 
-pub demand3 : (letter n p : ℕ) → 57 < letter → (fixed p n).expo ≤ 99 → Only letter (exp_text letter (some p) n) (Demand3 n p)
+pub demand3 : (letter n p : ℕ) → 57 < letter → (fixed p n).expo ≤ 99 → Only letter (exp_text letter (Some p) n) (Demand3 n p)
 unfolding exp_text sci
 demand3 letter n p l h = only letter (fixed p n) (Demand3 n p) l (rw (F.shown n p).places (F.shown n p).high) h (facts n p)
 
 -- zero's text, `zero-text` of Steps, denotes 0
-pub zero-denotes : (letter p : ℕ) → 57 < letter → Only letter (exp_text letter (some p) 0) (λ x. Denotes (number x) 0)
+pub zero-denotes : (letter p : ℕ) → 57 < letter → Only letter (exp_text letter (Some p) 0) (λ x. Denotes (number x) 0)
 zero-denotes letter p l =
     let z = T.small 0 (omega arith) in
     let O = demand3 letter 0 p l (omega (arith, (F.shown 0 p).most)) in
@@ -90,6 +90,6 @@ short-facts n =
       enough = K.enough;
     }
 
-pub shortest : (letter n : ℕ) → 57 < letter → exponent_of n ≤ 99 → Only letter (exp_text letter none n) (Shortest n)
+pub shortest : (letter n : ℕ) → 57 < letter → exponent_of n ≤ 99 → Only letter (exp_text letter None n) (Shortest n)
 unfolding exp_text sci
 shortest letter n l h = only letter (short n) (Shortest n) l (S.shown n).high (rw (S.shown n).expo h) (short-facts n)

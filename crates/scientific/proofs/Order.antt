@@ -1,7 +1,7 @@
 -- A higher precision never goes farther from n, and at one precision a larger magnitude never denotes a smaller number. Zero included.
 -- Assumes nothing.
 use mathlib.Core.Bool.{Bool, false}
-use mathlib.Core.Option.{some}
+use Rattle.std.specs.Prelude.{Some}
 use mathlib.Core.Path.{◌≡◌, sym, ap, ◌∙◌, subst}
 use Prim.Native.Nat.{ℕ, suc, ◌-◌, ◌*◌, ◌^◌, ◌≤◌, ◌<◌}
 use native.Mathlib.Nat.{le_trans, mul_assoc, mul-le-mul_right, pow-suc}
@@ -85,7 +85,7 @@ in_order n m p D E h d d' = go (dec_le (exponent_of m) (exponent_of n)) (T.mono 
 -- ---- of the texts
 
 -- a text of n at precision p is read as the number that was made
-read_number : (letter n p : ℕ) → 57 < letter → (fixed p n).expo ≤ 99 → (signed : Bool) (x : Parts) → Reads signed letter (exp_text letter (some p) n) x → number x ≡ fixed p n
+read_number : (letter n p : ℕ) → 57 < letter → (fixed p n).expo ≤ 99 → (signed : Bool) (x : Parts) → Reads signed letter (exp_text letter (Some p) n) x → number x ≡ fixed p n
 unfolding exp_text sci
 read_number letter n p l h signed x r =
     let s = fixed p n in
@@ -95,7 +95,7 @@ read_number letter n p l h signed x r =
 
 -- raising the precision never increases the distance to n
 pub finer-texts : (letter n p p' : ℕ) → 57 < letter → (fixed p n).expo ≤ 99 → (fixed p' n).expo ≤ 99 → p ≤ p'
-    → (signed : Bool) (x x' : Parts) → Reads signed letter (exp_text letter (some p) n) x → Reads signed letter (exp_text letter (some p') n) x'
+    → (signed : Bool) (x x' : Parts) → Reads signed letter (exp_text letter (Some p) n) x → Reads signed letter (exp_text letter (Some p') n) x'
     → (D D' : ℕ) → Denotes (number x) D → Denotes (number x') D' → apart false D' n ≤ apart false D n
 finer-texts letter n p p' l b b' h signed x x' r r' D D' d d' =
     finer n p p' D D' h
@@ -104,7 +104,7 @@ finer-texts letter n p p' l b b' h signed x x' r r' D D' d d' =
 
 -- at one precision a larger magnitude never denotes a smaller number
 pub ordered-texts : (letter n m p : ℕ) → 57 < letter → (fixed p n).expo ≤ 99 → (fixed p m).expo ≤ 99 → n ≤ m
-    → (signed : Bool) (x y : Parts) → Reads signed letter (exp_text letter (some p) n) x → Reads signed letter (exp_text letter (some p) m) y
+    → (signed : Bool) (x y : Parts) → Reads signed letter (exp_text letter (Some p) n) x → Reads signed letter (exp_text letter (Some p) m) y
     → (D E : ℕ) → Denotes (number x) D → Denotes (number y) E → D ≤ E
 ordered-texts letter n m p l b b' h signed x y r r' D E d d' =
     in_order n m p D E h

@@ -2,7 +2,7 @@
 -- That digits come one or two at a time from the end, and an exponent's one or two digits, are laws of digits: last_text-split, text-small, text-last.
 -- Assumes nothing.
 use mathlib.Core.List.{List, [], ◌∷◌, ◌++◌, append_assoc, append-nil}
-use mathlib.Core.Option.{some}
+use Rattle.std.specs.Prelude.{Some}
 use mathlib.Core.Path.{◌≡◌, ap, ◌∙◌}
 use Prim.Native.Nat.{ℕ, ◌+◌, ◌-◌, ◌*◌, ◌/◌, ◌^◌, ◌≤◌}
 use native.Mathlib.Nat.{mul-div-mul_right, sub-zero}
@@ -25,7 +25,7 @@ layout-zeros letter m f z k =
     rw (pow-add 10 f z, mul-div-mul_right {m = 10 ^ z} m (10 ^ f) (T.pos z), last_text-zeros ascii 10 T.ten f z m) (simp append_assoc)
 
 -- p is at least e: the digits of n and then p - e zeros
-pub long-text : (letter n p : ℕ) → exponent_of n ≤ p → exp_text letter (some p) n
+pub long-text : (letter n p : ℕ) → exponent_of n ≤ p → exp_text letter (Some p) n
     ≡ (ascii (n / 10 ^ exponent_of n) ∷ point p ++ last_text ascii 10 (exponent_of n) n) ++ (replicate (p - exponent_of n) 48 ++ letter ∷ decimal (exponent_of n))
 unfolding exp_text sci
 long-text letter n p l =
@@ -33,7 +33,7 @@ long-text letter n p l =
     ap (layout letter) (fixed-long n p l) ∙ (rw f at (layout-zeros letter n (exponent_of n) (p - exponent_of n) (exponent_of n)))
 
 -- zero has p fraction zeros and exponent 0
-pub zero-text : (letter p : ℕ) → exp_text letter (some p) 0 ≡ 48 ∷ point p ++ (replicate p 48 ++ letter ∷ 48 ∷ [])
+pub zero-text : (letter p : ℕ) → exp_text letter (Some p) 0 ≡ 48 ∷ point p ++ (replicate p 48 ++ letter ∷ 48 ∷ [])
 unfolding exponent_of text last_text last digits
 zero-text letter p =
     long-text letter 0 p (omega arith)

@@ -1,6 +1,5 @@
 -- Which exponent texts are canonical (document 01, "Reading", NOT_CANONICAL, the clauses of the exponent form).
-use Rattle.std.specs.Prelude.{Bool, true, List, [], ◌∷◌, ◌++◌, ◌≡◌, ℕ, ◌-◌, ◌*◌, ◌^◌, ◌≤◌, ◌<◌, length}
-use Rattle.std.proofs.Math.Option.{none}
+use Rattle.std.specs.Prelude.{None, Bool, true, List, [], ◌∷◌, ◌++◌, ◌≡◌, ℕ, ◌-◌, ◌*◌, ◌^◌, ◌≤◌, ◌<◌, length}
 use Rattle.scientific.specs.Sci.{exponent_of}
 use Rattle.scientific.specs.Layout.{exp_text}
 use Rattle.scientific.specs.Shape.{Parts, sign, number}
@@ -23,7 +22,7 @@ magnitude x = (number x).coef * 10 ^ ((number x).expo - (number x).frac)
 
 -- t is the text of the magnitude n without precision, behind a minus only if signed and n is not 0. Its exponent has one or two digits.
 pub record Plain (signed : Bool) (letter : ℕ) (t : List ℕ) (minus : Bool) (n : ℕ) : Type 0 where
-  pub text : t ≡ sign minus ++ exp_text letter none n
+  pub text : t ≡ sign minus ++ exp_text letter None n
   pub signs : minus ≡ true → signed ≡ true
   pub pos : minus ≡ true → 0 < n
   pub expo : exponent_of n ≤ 99

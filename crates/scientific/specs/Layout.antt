@@ -1,6 +1,5 @@
 -- The text of the exponent form (document 01, "Exponent"): lead digit, point, fraction, letter, exponent.
-use Rattle.std.specs.Prelude.{List, [], ◌∷◌, ◌++◌, ℕ, zero, suc, ◌/◌, ◌^◌}
-use Rattle.std.proofs.Math.Option.{Option}
+use Rattle.std.specs.Prelude.{Option, List, [], ◌∷◌, ◌++◌, ℕ, zero, suc, ◌/◌, ◌^◌}
 use Rattle.digits.specs.Text.{ascii, last_text, decimal}
 use Rattle.scientific.specs.Sci.{Sci, sci}
 

@@ -1,7 +1,6 @@
 -- The arithmetic of the exponent form (document 01, "Exponent"; `impl_Exp` of fmt/num.rs): from a magnitude and a precision
 -- to a coefficient, its fraction digits and an exponent. Over all naturals.
-use Rattle.std.specs.Prelude.{true, false, ℕ, zero, suc, ◌+◌, ◌-◌, ◌*◌, ◌/◌, ◌%◌, ◌^◌, leb, ltb, eqb, length}
-use Rattle.std.proofs.Math.Option.{Option, none, some}
+use Rattle.std.specs.Prelude.{Option, None, Some, true, false, ℕ, zero, suc, ◌+◌, ◌-◌, ◌*◌, ◌/◌, ◌%◌, ◌^◌, leb, ltb, eqb, length}
 use Rattle.digits.specs.Digits.{digits}
 
 -- The digits, the point left out, as one number M; how many of them, f, stand behind the point; an exponent k. That is M times 10^k over 10^f.
@@ -54,5 +53,5 @@ unfoldable pub fixed : ℕ → ℕ → Sci
 fixed p n = fixed_at p (exponent_of n) n
 
 unfoldable pub sci : Option ℕ → ℕ → Sci
-sci none n = short n
-sci (some p) n = fixed p n
+sci None n = short n
+sci (Some p) n = fixed p n

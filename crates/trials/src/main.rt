@@ -3,6 +3,7 @@
 // The file stdout comes from the document and the Rust's text, never from what this program writes.
 #![tactic(auto)]
 
+// Each program is a crate with a main of its own, one call long.
 fn main() {
     player::run();
 }

@@ -4,74 +4,54 @@
 // a heading. The file stdout is written by hand from the document, never from what this program writes.
 #![tactic(auto)]
 
-use fields::field::Field;
-use fields::narrow::word;
-use fields::{field, lines, narrow, output};
+use fields::held::held;
+use fields::lines::split_once;
+use fields::numbers::number;
+use fields::output::Output;
+use fields::{answers, lines};
 use kinds::Kind;
+use outcomes::Outcome;
+use std::io::Write;
 
-fn read(
-    bits: u64,
-    signed: u64,
-    format: u64,
-    text: &[u8],
-    out: &mut [u8; 4096],
-    waiting: usize,
-) -> usize {
+// The text behind three numbers, read as they say: nothing where they are no three numbers.
+fn read(row: &[u8]) -> Option<Outcome> {
+    let (bits, rest) = split_once(row, b' ')?;
+    let (signed, rest) = split_once(rest, b' ')?;
+    let (format, text) = split_once(rest, b' ').unwrap_or((rest, &[]));
     let kind = Kind {
-        bits: word(bits),
-        signed: signed != 0,
+        bits: held(number(bits)?),
+        signed: number(signed)? != 0,
     };
-    let outcome = reader::read(kind, word(format), text);
-    output::put_answer(out, waiting, outcome.number() as u64, outcome.value())
+    Some(reader::read(kind, held(number(format)?), text))
 }
 
-fn answer_row(line: &[u8], out: &mut [u8; 4096], waiting: usize) -> usize {
-    let Field::Number(bits, first) = field::number_at(line, 2) else {
-        return output::put(out, waiting, b'?');
-    };
-    let Field::Number(signed, second) = field::number_at(line, first + 1) else {
-        return output::put(out, waiting, b'?');
-    };
-    let Field::Number(format, third) = field::number_at(line, second + 1) else {
-        return output::put(out, waiting, b'?');
-    };
-    let text = narrow::within(third + 1, line);
-    read(bits, signed, format, &line[text..], out, waiting)
-}
-
-fn answer(line: &[u8], out: &mut [u8; 4096], waiting: usize) -> usize {
-    if line.len() < 2 {
-        return output::put(out, waiting, b'?');
-    }
-    match line[0] {
-        b'r' => answer_row(line, out, waiting),
-        b'#' => output::put_all(out, waiting, line),
-        _ => output::put(out, waiting, b'?'),
+fn answer_row<W: Write>(row: &[u8], out: &mut W) -> std::io::Result<()> {
+    match read(row) {
+        Some(outcome) => answers::pair(
+            out,
+            outcomes::number(outcome) as u64,
+            outcomes::value(outcome),
+        ),
+        None => answers::unknown(out),
     }
 }
 
-// The label, if there is one, and the answer to the row behind it.
-fn answer_labelled(line: &[u8], out: &mut [u8; 4096], waiting: usize) -> usize {
-    let row = lines::row_at(line);
-    let now = lines::put_label(out, waiting, line, row);
-    answer(&line[row..], out, now)
-}
-
-fn play(input: &[u8]) {
-    let mut out = [0u8; 4096];
-    let mut waiting = 0;
-    let mut from = 0;
-    while from < input.len() {
-        let end = lines::find(input, from, b'\n');
-        waiting = answer_labelled(&input[from..end], &mut out, waiting);
-        waiting = output::put(&mut out, waiting, b'\n');
-        from = end + 1;
+fn answer<W: Write>(line: &[u8], out: &mut W) -> std::io::Result<()> {
+    match line {
+        [b'r', _, row @ ..] => answer_row(row, out),
+        [b'#', _, ..] => out.write_all(line),
+        _ => answers::unknown(out),
     }
-    output::flush(&out, waiting);
 }
 
+// Not by `player::run`, which answers other rows, and whose lines the edit line_played_for_ever turns.
 fn main() {
-    let mut all = lines::space();
-    let n = io::read_full(0, &mut all);
-    play(&all[..n]);
+    let mut space = lines::space();
+    let n = io::read_full(0, &mut space);
+    let lines = space[..n].split_inclusive(|byte| *byte == b'\n');
+    let _ = lines::play(
+        lines,
+        &mut Output::new(),
+        |line, out| answer(lines::past_label(line, out)?, out),
+    );
 }

@@ -4,6 +4,7 @@
 // The file stdout is written by hand from the document, the std::fmt guide and fmt/mod.rs, never from what this program writes.
 #![tactic(auto)]
 
+// Each program is a crate with a main of its own, one call long.
 fn main() {
     player::run();
 }

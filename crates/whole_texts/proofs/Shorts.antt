@@ -5,9 +5,12 @@ use mathlib.Core.List.{List, [], ◌∷◌, ◌++◌, map, append-nil}
 use mathlib.Core.Path.{◌≡◌, refl, sym, ap, ◌∙◌}
 use Prim.Native.Nat.{ℕ, zero, suc, ◌+◌, ◌-◌, ◌≤◌, ◌<◌}
 use native.Mathlib.Omega.{arith}
-use lib.Dec.{lit<, ltb}
+use lib.Dec.{lit<, lit≤, ltb}
 use lib.ListN.{length, get_or, take, drop, length-drop, length-map}
 use lib.Seq.{take_all, drop-length}
+use Rattle.formats.specs.declared.Case.{Case}
+use Rattle.formats.specs.declared.Case.TheVariants.{Lower, Upper}
+use Rattle.formats.specs.Formats.{letter_from}
 use Rattle.digits.specs.Digits.{value_from, value, digits, Below}
 use Rattle.digits.specs.Text.{text, decimal}
 use Rattle.digits.proofs.Digits.{digits-below, digits-some, digits_value, digits-pos, bare-lead}
@@ -16,8 +19,14 @@ use Rattle.reading.proofs.Faithful.{letters-alphabet}
 use Rattle.reading.proofs.Whole.{Alphabet}
 use Rattle.digit_runs.specs.Runs.{DigitRun, Front}
 use Rattle.digit_runs.proofs.Runs.{figures}
-use Rattle.whole_texts.specs.Wholes.{IsNumber}
+use Rattle.outcomes.specs.Found.{IsNumber}
+use Rattle.whole_texts.specs.Wholes.{wholes}
 use Rattle.whole_texts.proofs.Texts.{first, found_number}
+
+-- the letters of a hex text stand behind the figures
+pub a_apart : (case : Case) → (57 < letter_from case 97) × (letter_from case 97 ≤ 97)
+a_apart Lower = (lit< tt, lit≤ tt)
+a_apart Upper = (lit< tt, lit≤ tt)
 
 module _ (α : ℕ → ℕ) (b : ℕ) (A : Alphabet α b) (figure : α 0 ≡ 48) where
   -- a first byte `0` is the digit 0
@@ -65,17 +74,17 @@ module _ (α : ℕ → ℕ) (b : ℕ) (A : Alphabet α b) (figure : α 0 ≡ 48)
         let g : (0 < from → ⊥) = λ h. f h n in
         omega (arith, size)
 
-    short-number : (may : Bool) → Front may t from → (0 < from → v ≡ 0 → ⊥) → IsNumber may α b t (ltb 0 from) v false
+    short-number : (may : Bool) → Front may t from → (0 < from → v ≡ 0 → ⊥) → IsNumber (wholes may α b) t (record { negative = ltb 0 from; magnitude = v })
     short-number may F f =
-        found_number α b A figure may t from (length t) F run (omega arith) (omega (arith, size, digits-some b A.big v)) v false (alone f) (λ o. held) (λ o. absurd (false≢true o))
+        found_number α b A figure may t from (length t) F run (omega arith) (omega (arith, size, digits-some b A.big v)) v (alone f) held
 
 pub short-decimal : (t : List ℕ) (from v : ℕ) → from ≤ length t → take (length t - from) (drop from t) ≡ decimal v → (may : Bool) → Front may t from → (0 < from → v ≡ 0 → ⊥)
-    → IsNumber may lower 10 t (ltb 0 from) v false
+    → IsNumber (wholes may lower 10) t (record { negative = ltb 0 from; magnitude = v })
 unfolding text
 short-decimal t from v inside e =
     short-number lower 10 (letters-alphabet 97 10 (lit< tt) (lit< tt)) refl t from v inside (e ∙ sym (figures (digits 10 v) (digits-below 10 (lit< tt) v)))
 
-pub short-hex : (letter : ℕ) → 57 < letter → (t : List ℕ) (v : ℕ) → t ≡ text (digit_byte letter) 16 v → IsNumber false (digit_byte letter) 16 t false v false
+pub short-hex : (letter : ℕ) → 57 < letter → (t : List ℕ) (v : ℕ) → t ≡ text (digit_byte letter) 16 v → IsNumber (wholes false (digit_byte letter) 16) t (record { negative = false; magnitude = v })
 short-hex letter l t v e =
     short-number (digit_byte letter) 16 (letters-alphabet letter 16 l (lit< tt)) refl t 0 v (omega arith) (take_all (length t - 0) t (omega arith) ∙ e) false
     (record { minus = false; allowed = λ o. absurd (false≢true o); size = refl; text = refl; none = λ o y. absurd (false≢true y) }) (λ h. absurd (omega arith))

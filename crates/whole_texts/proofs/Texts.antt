@@ -15,7 +15,8 @@ use Rattle.reading.specs.Form.{Reads, Place}
 use Rattle.reading.specs.Whole.{Whole, CanonicalWhole, whole_shape}
 use Rattle.reading.proofs.Whole.{Alphabet, place-stop, place_none}
 use Rattle.digit_runs.specs.Runs.{DigitRun, Front}
-use Rattle.whole_texts.specs.Wholes.{IsNumber}
+use Rattle.outcomes.specs.Found.{IsNumber, IsBeyond}
+use Rattle.whole_texts.specs.Wholes.{wholes}
 use Rattle.digit_runs.proofs.Runs.{value_from-le}
 
 pub empty : (l : List ℕ) → length l ≤ 0 → l ≡ []
@@ -137,13 +138,10 @@ module _ (α : ℕ → ℕ) (b : ℕ) (A : Alphabet α b) (figure : α 0 ≡ 48)
             omega arith
         minus o v (suc d ∷ l) e = let g = value-lead b d l A.big in let w : value b (suc d ∷ l) ≡ 0 = ap (value b) (sym e) ∙ v in omega arith
 
-    pub found_number : (v : ℕ) (over : Bool) → (get_or t s 0 ≡ 48 → end ≤ 1) → (over ≡ false → v ≡ value_from b 0 ds) → (over ≡ true → 2 ^ 64 ≤ value_from b 0 ds) → IsNumber may α b t (ltb 0 s) v over
+    pub found_number : (v : ℕ) → (get_or t s 0 ≡ 48 → end ≤ 1) → v ≡ value_from b 0 ds → IsNumber (wholes may α b) t (record { negative = ltb 0 s; magnitude = v })
     unfolding value
-    found_number v over f held beyond = record {
-      parts = parts;
-      reads = found-reads;
-      canonical = found-canonical f;
-      sign = sym (ap (ltb 0) F.size ∙ sized m);
-      held = held;
-      beyond = beyond;
-    }
+    found_number v f held = record { parts = parts; reads = found-reads; canonical = found-canonical f; sign = sym (ap (ltb 0) F.size ∙ sized m); held = held }
+
+    pub found-beyond : (get_or t s 0 ≡ 48 → end ≤ 1) → 2 ^ 64 ≤ value_from b 0 ds → IsBeyond (wholes may α b) t
+    unfolding value
+    found-beyond f beyond = record { parts = parts; reads = found-reads; canonical = found-canonical f; beyond = beyond }

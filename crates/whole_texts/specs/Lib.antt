@@ -1,2 +1,2 @@
--- What is found of a text of digits.
+-- Texts of digits, by sign and number.
 pub mod Wholes

@@ -1,71 +1,68 @@
 // Texts of digits behind a minus or none: what each is found to be.
 #![tactic(auto)]
 
-ghost use Rattle.std.specs.Prelude.{true, false, ◌≡◌, ◌-◌, ◌/◌, ◌^◌, ◌≤◌, ◌<◌, length};
+ghost use Rattle.std.specs.Prelude.{true, false, ◌≡◌, ◌≤◌, ◌<◌, length, IfSome};
+ghost use Rattle.formats.specs.Formats.{letter_from};
 ghost use Rattle.radix.specs.Radix.{digit_byte, lower};
-ghost use Rattle.whole_texts.specs.Wholes.{IsNumber, FoundOf};
+ghost use Rattle.outcomes.specs.Found.{IsNumber, Found};
+ghost use Rattle.whole_texts.specs.Wholes.{wholes};
 
-use digit_runs::{front, scan};
-use sixteen_digits::Number;
-use twenty_digits::number_of;
+use digit_runs::{Numerals, front, scan};
+use formats::Case;
+use kinds::Split;
+use outcomes::Fault;
+use sixteen_digits::Letter;
 
-// What a text of digits is found to be: of another shape from a place on, not canonical, or a number behind a minus or none.
-#[derive(Clone, Copy)]
-pub enum Found {
-    Wrong(usize),
-    Broken,
-    Number { minus: bool, value: u64, over: bool },
-}
-
-pub fn find_whole(text: &[u8], may: bool, base: u64, top: u64, letter: u8) -> Found
-    requires { (0 < length text.now) × (1 < base) × (base ≤ 16) × (57 < letter) × (letter ≤ 97) × (top ≡ (2 ^ 64 - 1) / base) }
-    ensures { FoundOf may (digit_byte letter) base text.now result }
+// That a text is not empty `read` has found once for all below it: a slice with that fact as a type would be no slice any more.
+// The number that a text of digits stands for; or it is of another shape from a place on, not canonical, or over 64 bits.
+pub fn find_whole(text: &[u8], may: bool, numerals: Numerals) -> Result<Split, Fault>
+    requires { 0 < length text.now }
+    ensures { Found (wholes may (digit_byte numerals.letter) numerals.base) text.now result }
 {
     let start = front(text, may);
-    let run = scan(text, start, base, top, letter, 0);
+    let run = scan(text, start, numerals, 0);
     let end = run.end;
     if end < text.len() {
-        return Found::Wrong(end);
+        return Err(Fault::Shape(end));
     }
     if end <= start {
-        return Found::Wrong(end);
+        return Err(Fault::Shape(end));
     }
     if text[start] == 48 {
         if 1 < end {
-            return Found::Broken;
+            return Err(Fault::NotCanonical);
         }
     }
-    Found::Number {
-        minus: 0 < start,
-        value: run.value,
-        over: run.over,
-    }
+    let Some(magnitude) = run.value else {
+        return Err(Fault::Range);
+    };
+    Ok(Split {
+        negative: 0 < start,
+        magnitude,
+    })
 }
 
-// A minus or none and the number behind it; NONE where it is not known.
-#[derive(Clone, Copy)]
-pub struct Magnitude {
-    pub minus: bool,
-    pub value: u64,
-}
-
-// The magnitude of a decimal text of 1 to 20 digits, eight digits at a time; 0 behind a minus is left to the caller to refuse.
+// The number of a decimal text of 1 to 20 digits, eight digits at a time; 0 behind a minus is left to the caller to refuse.
 // What is wrong with any other text is found byte by byte.
-pub fn find_short(text: &[u8], may: bool) -> Magnitude
+pub fn find_short(text: &[u8], may: bool) -> Option<Split>
     requires { 0 < length text.now }
-    ensures { ((result.minus ≡ true → may ≡ true)) × ((result.value ≡ 0xffff_ffff_ffff_ffff → ⊥) → (result.minus ≡ true → result.value ≡ 0 → ⊥) → IsNumber may lower 10 text.now result.minus result.value false) }
+    ensures { IfSome result (λ n. ((n.negative ≡ true → may ≡ true)) × ((n.negative ≡ true → n.magnitude ≡ 0 → ⊥) → IsNumber (wholes may lower 10) text.now n)) }
 {
     let start = front(text, may);
-    Magnitude {
-        minus: 0 < start,
-        value: number_of(&text[start..]),
-    }
+    let magnitude = twenty_digits::number_of(&text[start..])?;
+    Some(Split {
+        negative: 0 < start,
+        magnitude,
+    })
 }
 
 // The number of a hex text of 1 to 16 digits, eight digits at a time.
-pub fn find_hex(text: &[u8], letter: u8) -> Number
-    requires { (0 < length text.now) × (57 < letter) × (letter ≤ 97) }
-    ensures { result.known ≡ true → IsNumber false (digit_byte letter) 16 text.now false result.value false }
+pub fn find_hex(text: &[u8], case: Case) -> Option<u64>
+    requires { 0 < length text.now }
+    ensures { IfSome result (λ n. IsNumber (wholes false (digit_byte (letter_from case 97)) 16) text.now (record { negative = false; magnitude = n })) }
 {
+    let letter = Letter {
+        first: case.letter(b'a'),
+    };
     sixteen_digits::number_of(text, letter)
 }

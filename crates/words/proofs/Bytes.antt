@@ -3,13 +3,14 @@
 use mathlib.Core.Path.{◌≡◌, refl, sym, ap, ◌∙◌}
 use mathlib.Core.List.{List, ◌∷◌, ◌++◌}
 use Prim.Native.Nat.{ℕ, zero, suc, ◌+◌, ◌*◌, ◌/◌, ◌%◌, ◌^◌, ◌≤◌, ◌<◌}
-use native.Mathlib.Nat.{add-zero, zero-add, suc-add, div-one, mod-lt, one-le-pow}
+use native.Mathlib.Nat.{add-zero, zero-add, suc-add, div-one, div-div-eq-div-mul, mod-lt, one-le-pow, pow-suc}
 use native.Mathlib.Omega.{arith}
 use lib.Arith.{digits_div, digits_mod}
 use lib.Dec.{lit<}
 use lib.ListN.{length, take, drop, replicate}
 use lib.Pow.{shr-shr, mod-pow-add}
 use lib.Seq.{take_at, drop_at, drop-append-le}
+use Rattle.std.specs.Int.{byte_at, bytes_low_first}
 use Rattle.words.specs.Bytes.{bytes_of}
 
 pub length-bytes_of : (k x : ℕ) → length (bytes_of k x) ≡ k
@@ -71,3 +72,18 @@ pub bytes_shifted : (k j x : ℕ) → bytes_of (k + j) (x * 2 ^ (k * 8)) ≡ rep
 bytes_shifted k j x =
     let e : x * 2 ^ (k * 8) ≡ x * 2 ^ (k * 8) + 0 = sym (add-zero (x * 2 ^ (k * 8))) in
     ap (bytes_of (k + j)) e ∙ bytes-join k j x {x = 0} (one-le-pow (k * 8) 2 (lit< tt)) ∙ ap (λ (l : List ℕ). l ++ bytes_of j x) (zero-bytes k)
+
+-- the library's bytes of a number, from byte i on
+library_from : (i k x : ℕ) → bytes_low_first i k x ≡ bytes_of k (x / 256 ^ i)
+unfolding bytes_of
+library_from i zero x = refl
+library_from i (suc k) x =
+    let e : x / 256 ^ suc i ≡ x / 256 ^ i / 256 = ap (λ (m : ℕ). x / m) (pow-suc 256 i) ∙ sym (div-div-eq-div-mul x (256 ^ i) 256) in
+    ap (λ (l : List ℕ). byte_at i x ∷ l) (library_from (suc i) k x ∙ ap (bytes_of k) e) ∙ ap (λ (b : ℕ). b ∷ bytes_of k (x / 256 ^ i / 256)) (low i)
+  where
+    low : (j : ℕ) → byte_at j x ≡ x / 256 ^ j % 256
+    low zero = rw div-one
+    low (suc j) = refl
+
+pub library_bytes : (k x : ℕ) → bytes_low_first 0 k x ≡ bytes_of k x
+library_bytes k x = library_from 0 k x ∙ ap (bytes_of k) (div-one x)

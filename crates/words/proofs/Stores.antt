@@ -1,12 +1,13 @@
 -- Laws of runs of stores: one after another, and one over another, where the later wins.
 -- Assumes nothing.
 use mathlib.Core.Path.{◌≡◌, refl, sym, ap, ◌∙◌}
-use mathlib.Core.List.{List, [], ◌∷◌, ◌++◌}
+use mathlib.Core.List.{List, [], ◌∷◌, ◌++◌, append_assoc}
 use Prim.Native.Nat.{ℕ, suc, ◌+◌, ◌-◌, ◌*◌, ◌/◌, ◌^◌, ◌≤◌, ◌<◌}
 use native.Mathlib.Nat.{add-zero, add-suc, suc-add, le_of_suc-le-suc, not-suc-le-zero, le_refl}
 use native.Mathlib.Omega.{arith}
-use lib.ListN.{length, set, drop, length-drop}
-use lib.Seq.{sets, set-set, set_comm, drop-append-le}
+use borrow.Rule.Slice.PartMut.{put_mid}
+use lib.ListN.{length, set, take, drop, length-drop}
+use lib.Seq.{sets, sets-eq, set-set, set_comm, drop-drop, drop-append-le}
 use Rattle.words.specs.Bytes.{bytes_of}
 use Rattle.words.proofs.Bytes.{length-bytes_of, bytes-split, bytes-shift}
 
@@ -14,11 +15,12 @@ pub sets-append : (l : List ℕ) (i : ℕ) (xs ys : List ℕ) → sets l i (xs +
 sets-append l i [] ys = rw add-zero
 sets-append l i (x ∷ xs) ys = sets-append (set l i x) (suc i) xs ys ∙ rw (suc-add, add-suc)
 
--- the bytes of a word in two runs, one behind the other
-pub sets-halves : (l : List ℕ) (at j k x : ℕ) → sets (sets l at (bytes_of j x)) (at + j) (bytes_of k (x / 2 ^ (j * 8))) ≡ sets l at (bytes_of (j + k) x)
-sets-halves l at j k x =
-    let hi = bytes_of k (x / 2 ^ (j * 8)) in
-    sym (ap (sets l at) (bytes-split j k x) ∙ sets-append l at (bytes_of j x) hi ∙ ap (λ (i : ℕ). sets (sets l at (bytes_of j x)) (at + i) hi) (length-bytes_of j x))
+-- the k bytes lent from an index on have become those of a word
+pub stored : (l : List ℕ) (at k x : ℕ) {now : List ℕ} → now ≡ bytes_of k x → at + k ≤ length l → put_mid at (at + k - at) l now ≡ sets l at (bytes_of k x)
+stored l at k x f h =
+    let n : length (bytes_of k x) ≡ k = length-bytes_of k x in
+    let d : drop (at + k - at) (drop at l) ≡ drop (at + length (bytes_of k x)) l = drop-drop (at + k - at) at l ∙ ap (λ (i : ℕ). drop i l) (omega arith) in
+    rw (f, d) (sym (sets-eq (bytes_of k x) l at (omega arith) ∙ append_assoc (take at l) (bytes_of k x) (drop (at + length (bytes_of k x)) l)))
 
 -- a store in front of a run does not meet it
 set_past : (l : List ℕ) (i j x : ℕ) (ys : List ℕ) → i < j → set (sets l j ys) i x ≡ sets (set l i x) j ys

@@ -1,91 +1,116 @@
 // A word's bytes stored in a buffer, the lowest first, all of them or without the zeros in front.
-// Eight stores side by side of one word's bytes become one store. They are loaded by the crate loads.
+// They are loaded by the crate loads.
 #![tactic(auto)]
 
-ghost use Rattle.std.specs.Prelude.{◌≡◌, ◌+◌, ◌-◌, ◌≤◌, ◌++◌, length, drop};
+ghost use Rattle.std.specs.Prelude.{ℕ, ◌≡◌, ◌+◌, ◌-◌, ◌*◌, ◌/◌, ◌^◌, ◌≤◌, ◌<◌, ◌++◌, length, drop};
+ghost use Rattle.std.proofs.Common.{rules};
 ghost use Rattle.std.proofs.lemmas.List.Edits.{sets};
 ghost use Rattle.words.specs.Bytes.{bytes_of, zeros_front};
 
-// The two low bytes of x from the index at on.
-pub fn put2(x: u32, buf: &mut [u8], at: usize)
-    requires { at + 2 ≤ length buf.old }
-    ensures { buf.new ≡ sets buf.old at (bytes_of 2 x) }
-{
-    buf[at] = (x % 256) as u8;
-    buf[at + 1] = ((x >> 8) % 256) as u8;
+// A number that is stored whole or by halves. The prover knows it by its value and by how many bytes it has.
+// The bodies of the two types are alike and written out: a macro writes no ghost member, and std's own methods belong to no trait.
+pub trait Word: Copy {
+    ghost SIZE: { ℕ };
+
+    ghost value: { Self → ℕ };
+
+    const SIZE: usize;
+
+    // All its bytes from the index at on.
+    fn put(self, buf: &mut [u8], at: usize)
+        requires { at + SIZE ≤ length buf.old }
+        ensures { buf.new ≡ sets buf.old at (bytes_of SIZE (value self)) };
+
+    // The lower half of them.
+    fn put_low(self, buf: &mut [u8], at: usize)
+        requires { at + SIZE / 2 ≤ length buf.old }
+        ensures { buf.new ≡ sets buf.old at (bytes_of (SIZE / 2) (value self)) };
+
+    // The word without its first z bytes: the others stand first, and zeros behind.
+    fn without(self, z: u32) -> Self
+        requires { z < SIZE }
+        ensures { value result ≡ value self / 2 ^ (z * 8) };
+
+    // How many of its bytes are 0 below the first that is not.
+    fn zeros(self) -> u32
+        ensures { result ≡ zeros_front (bytes_of SIZE (value self)) };
+
+    ghost sized: { (0 < SIZE) × (SIZE ≤ 8) × (SIZE / 2 + SIZE / 2 ≡ SIZE) };
 }
 
-// The four bytes of x.
-pub fn put4(x: u32, buf: &mut [u8], at: usize)
-    requires { at + 4 ≤ length buf.old }
-    ensures { buf.new ≡ sets buf.old at (bytes_of 4 x) }
-{
-    put2(x, buf, at);
-    put2(x >> 16, buf, at + 2);
+impl Word for u32 {
+    ghost SIZE = { 4 };
+
+    ghost value = { λ x. x };
+
+    ghost sized = { Prim.search rules };
+
+    const SIZE: usize = 4;
+
+    fn put(self, buf: &mut [u8], at: usize) {
+        buf[at..at + 4].copy_from_slice(&self.to_le_bytes());
+    }
+
+    fn put_low(self, buf: &mut [u8], at: usize) {
+        buf[at..at + 2].copy_from_slice(&((self % 65536) as u16).to_le_bytes());
+    }
+
+    fn without(self, z: u32) -> u32 {
+        self >> (z * 8)
+    }
+
+    fn zeros(self) -> u32 {
+        self.trailing_zeros() / 8
+    }
 }
 
-// The eight bytes of x.
-pub fn put8(x: u64, buf: &mut [u8], at: usize)
-    requires { at + 8 ≤ length buf.old }
-    ensures { buf.new ≡ sets buf.old at (bytes_of 8 x) }
-{
-    put4((x % 4294967296) as u32, buf, at);
-    put4((x >> 32) as u32, buf, at + 4);
-}
+impl Word for u64 {
+    ghost SIZE = { 8 };
 
-// How many of the four bytes of x are 0 below the first that is not.
-pub fn zeros4(x: u32) -> u32
-    ensures { result ≡ zeros_front (bytes_of 4 x) }
-{
-    u32::trailing_zeros(x) / 8
-}
+    ghost value = { λ x. x };
 
-// The same of the eight bytes of x.
-pub fn zeros8(x: u64) -> u32
-    ensures { result ≡ zeros_front (bytes_of 8 x) }
-{
-    u64::trailing_zeros(x) / 8
+    ghost sized = { Prim.search rules };
+
+    const SIZE: usize = 8;
+
+    fn put(self, buf: &mut [u8], at: usize) {
+        buf[at..at + 8].copy_from_slice(&self.to_le_bytes());
+    }
+
+    fn put_low(self, buf: &mut [u8], at: usize) {
+        buf[at..at + 4].copy_from_slice(&((self % 4294967296) as u32).to_le_bytes());
+    }
+
+    fn without(self, z: u32) -> u64 {
+        self >> (z * 8)
+    }
+
+    fn zeros(self) -> u32 {
+        self.trailing_zeros() / 8
+    }
 }
 
 // The bytes of x without the first z, so that they end at the index end: two stores that overlap, whatever z is.
 // Nothing is stored outside of them. The answer is where they start.
-pub fn tail4(x: u32, z: u32, buf: &mut [u8], end: usize) -> usize
-    requires { (z ≤ 2) × (4 ≤ end + z) × (end ≤ length buf.old) }
-    ensures { (result ≡ end + z - 4) × (buf.new ≡ sets buf.old result (drop z (bytes_of 4 x))) }
+// The end travels beside the buffer, as in all crates of writers: the crate buffer says why.
+pub fn tail<X: Word>(x: X, z: u32, buf: &mut [u8], end: usize) -> usize
+    requires { (z ≤ X.SIZE / 2) × (X.SIZE ≤ end + z) × (end ≤ length buf.old) }
+    ensures { (result ≡ end + z - X.SIZE) × (buf.new ≡ sets buf.old result (drop z (bytes_of X.SIZE (X.value x)))) }
 {
-    let at = end + z as usize - 4;
-    put2(x >> (z * 8), buf, at);
-    put2(x >> 16, buf, end - 2);
-    at
-}
-
-pub fn tail8(x: u64, z: u32, buf: &mut [u8], end: usize) -> usize
-    requires { (z ≤ 4) × (8 ≤ end + z) × (end ≤ length buf.old) }
-    ensures { (result ≡ end + z - 8) × (buf.new ≡ sets buf.old result (drop z (bytes_of 8 x))) }
-{
-    let at = end + z as usize - 8;
-    put4(((x >> (z * 8)) % 4294967296) as u32, buf, at);
-    put4((x >> 32) as u32, buf, end - 4);
+    let at = end + z as usize - X::SIZE;
+    x.without(z).put_low(buf, at);
+    x.without(X::SIZE as u32 / 2)
+        .put_low(buf, end - X::SIZE / 2);
     at
 }
 
 // The same of two words, one behind the other.
-pub fn tail12(x: u32, y: u64, z: u32, buf: &mut [u8], end: usize) -> usize
-    requires { (z ≤ 3) × (12 ≤ end + z) × (end ≤ length buf.old) }
-    ensures { (result ≡ end + z - 12) × (buf.new ≡ sets buf.old result (drop z (bytes_of 4 x) ++ bytes_of 8 y)) }
+pub fn tail_two<X: Word, Y: Word>(x: X, y: Y, z: u32, buf: &mut [u8], end: usize) -> usize
+    requires { (z < X.SIZE) × (z ≤ Y.SIZE) × (X.SIZE + Y.SIZE ≤ end + z) × (end ≤ length buf.old) }
+    ensures { (result ≡ end + z - (X.SIZE + Y.SIZE)) × (buf.new ≡ sets buf.old result (drop z (bytes_of X.SIZE (X.value x)) ++ bytes_of Y.SIZE (Y.value y))) }
 {
-    let at = end + z as usize - 12;
-    put4(x >> (z * 8), buf, at);
-    put8(y, buf, end - 8);
-    at
-}
-
-pub fn tail16(x: u64, y: u64, z: u32, buf: &mut [u8], end: usize) -> usize
-    requires { (z ≤ 7) × (16 ≤ end + z) × (end ≤ length buf.old) }
-    ensures { (result ≡ end + z - 16) × (buf.new ≡ sets buf.old result (drop z (bytes_of 8 x) ++ bytes_of 8 y)) }
-{
-    let at = end + z as usize - 16;
-    put8(x >> (z * 8), buf, at);
-    put8(y, buf, end - 8);
+    let at = end + z as usize - (X::SIZE + Y::SIZE);
+    x.without(z).put(buf, at);
+    y.put(buf, end - Y::SIZE);
     at
 }

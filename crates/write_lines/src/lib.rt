@@ -2,95 +2,137 @@
 // at the head of crates/player, which plays them. No part of the archive.
 #![tactic(auto)]
 
-use fields::narrow::{half, word};
-use fields::{field, narrow, output};
+use fields::answers;
+use fields::held::held;
+use fields::numbers::{exactly, numbers};
 use kinds::Kind;
-use scaling::Precision;
+use std::io;
+use std::io::Write;
 use writing::{Options, Written};
 
-fn precision_of(given: u64, digits: u64) -> Precision {
-    if given == 0 {
-        return Precision::None;
-    }
-    Precision::Digits(half(digits))
+// A call of writer::write, but for its room.
+#[derive(Clone, Copy)]
+pub struct Call {
+    pub kind: Kind,
+    pub value: u64,
+    // A number of the line, as the entry takes it.
+    pub format: u32,
+    pub options: Options,
 }
 
-// Fields: bits signed value format plus alternate zero fill align width given precision.
-pub fn options_of(fields: &[u64; 40]) -> Options {
-    Options {
-        plus: fields[4] != 0,
-        alternate: fields[5] != 0,
-        zero: fields[6] != 0,
-        fill: word(fields[7]),
-        align: word(fields[8]),
-        width: half(fields[9]),
-        precision: precision_of(fields[10], fields[11]),
+impl Call {
+    // The call of 12 or 13 numbers, and of 13 its room.
+    pub fn of(row: &[u8]) -> Option<(Call, Option<u64>)> {
+        let numbers = numbers(row)?;
+        let (call, rest) = numbers.split_first_chunk::<12>()?;
+        let room = match rest {
+            [] => None,
+            [room] => Some(*room),
+            _ => return None,
+        };
+        Some((Call::from(*call), room))
     }
 }
 
-fn kind_of(fields: &[u64; 40]) -> Kind {
+impl From<[u64; 12]> for Call {
+    fn from(numbers: [u64; 12]) -> Call {
+        let [
+            bits,
+            signed,
+            value,
+            format,
+            plus,
+            alternate,
+            zero,
+            fill,
+            align,
+            width,
+            given,
+            digits,
+        ] = numbers;
+        Call {
+            kind: kind(bits, signed),
+            value,
+            format: held(format),
+            options: Options {
+                plus: plus != 0,
+                alternate: alternate != 0,
+                zero: zero != 0,
+                fill: held(fill),
+                align: held(align),
+                width: held(width),
+                precision: precision(given, digits),
+            },
+        }
+    }
+}
+
+fn kind(bits: u64, signed: u64) -> Kind {
     Kind {
-        bits: word(fields[0]),
-        signed: fields[1] != 0,
+        bits: held(bits),
+        signed: signed != 0,
     }
 }
 
-fn write(fields: &[u64; 40], out: &mut [u8]) -> Written {
-    writer::write(
-        kind_of(fields),
-        fields[2],
-        word(fields[3]),
-        options_of(fields),
+fn precision(given: u64, digits: u64) -> Option<u16> {
+    (given != 0).then_some(held(digits))
+}
+
+fn write(call: Call, room: &mut [u8]) -> Written {
+    writer::write(call.kind, call.value, call.format, call.options, room)
+}
+
+// `NUMBER VALUE`.
+fn told<W: Write>(written: Written, out: &mut W) -> io::Result<()> {
+    answers::pair(
         out,
+        writing::number(written),
+        writing::value(written) as u64,
     )
 }
 
 // The text into room that suffices, or `! NUMBER VALUE` of a refusal.
-fn text(fields: &[u64; 40], out: &mut [u8; 4096], waiting: usize) -> usize {
+fn text<W: Write>(call: Call, out: &mut W) -> io::Result<()> {
     let mut space = [b'.'; 512];
-    let written = write(fields, &mut space);
-    let Written::Done(length) = written else {
-        let now = output::put_all(out, waiting, b"! ");
-        return output::put_answer(out, now, written.number(), written.value() as u64);
+    let written = write(call, &mut space);
+    let Ok(length) = written else {
+        out.write_all(b"! ")?;
+        return told(written, out);
     };
-    output::put_front(out, waiting, &space, length)
+    let n = space.len().min(length);
+    out.write_all(&space[..n])
 }
 
-// `NUMBER VALUE [BUFFER]`.
-pub fn shown(written: Written, room: &[u8], out: &mut [u8; 4096], waiting: usize) -> usize {
-    let now = output::put_answer(out, waiting, written.number(), written.value() as u64);
-    output::put_buffer(out, now, room)
-}
-
-fn buffer(fields: &[u64; 40], out: &mut [u8; 4096], waiting: usize) -> usize {
+// What is written over a buffer of so many dots, 512 at most: `NUMBER VALUE [BUFFER]`.
+pub fn over<W, F>(size: u64, out: &mut W, write: F) -> io::Result<()>
+where
+    W: Write,
+    F: FnOnce(&mut [u8]) -> Written,
+    requires { F.IsAlwaysCallable write }
+{
     let mut space = [b'.'; 512];
-    let n = narrow::within(fields[12] as usize, &space);
+    let n = space.len().min(size as usize);
     let room = &mut space[..n];
-    let written = write(fields, room);
-    shown(written, room, out, waiting)
+    told(write(room), out)?;
+    answers::buffer(out, room)
 }
 
-pub fn answer(line: &[u8], out: &mut [u8; 4096], waiting: usize) -> usize {
-    let mut fields = [0u64; 40];
-    let count = field::numbers_at(line, 0, &mut fields);
-    if count == 12 {
-        return text(&fields, out, waiting);
+// The lines of 12 and 13 numbers.
+pub fn answer<W: Write>(line: &[u8], out: &mut W) -> io::Result<()> {
+    match Call::of(line) {
+        Some((call, None)) => text(call, out),
+        Some((call, Some(size))) => over(size, out, move |room| write(call, room)),
+        None => answers::unknown(out),
     }
-    if count == 13 {
-        return buffer(&fields, out, waiting);
-    }
-    output::put(out, waiting, b'?')
 }
 
 // The short form: bits signed value format room.
-pub fn answer_short(line: &[u8], out: &mut [u8; 4096], waiting: usize) -> usize {
-    let mut fields = [0u64; 40];
-    if field::numbers_at(line, 2, &mut fields) != 5 {
-        return output::put(out, waiting, b'?');
-    }
-    let mut space = [b'.'; 512];
-    let n = narrow::within(fields[4] as usize, &space);
-    let room = &mut space[..n];
-    let written = writer::write_short(kind_of(&fields), fields[2], word(fields[3]), room);
-    shown(written, room, out, waiting)
+pub fn answer_short<W: Write>(row: &[u8], out: &mut W) -> io::Result<()> {
+    let Some(numbers) = exactly(row) else {
+        return answers::unknown(out);
+    };
+    let [bits, signed, value, format, size]: [u64; 5] = numbers;
+    over(size, out, move |room| {
+        writer::write_short(kind(bits, signed), value, held(format), room)
+    })
 }

@@ -1,2 +1,3 @@
--- A law of the short form.
+-- Laws of the judged value and of the short form.
+pub mod Judged
 pub mod Short

@@ -1,4 +1,5 @@
 // The public writer: a number to text by type, format and options, as one 64-bit core that judges type and value first, and its short form.
+// The format comes as a number: both promise to refuse one that is none as OPTIONS (`answer`; the edit `short_call_without_a_format`).
 #![tactic(auto)]
 
 ghost use Rattle.std.specs.Prelude.{length};
@@ -6,20 +7,15 @@ ghost use Rattle.kinds.specs.Kinds.{meaning};
 ghost use Rattle.writing.specs.Text.{text_of};
 ghost use Rattle.writing.specs.Promise.{house, answer, Writes};
 
-use kinds::Kind;
-use writing::{Options, Written};
+use kinds::{Kind, Value};
+use writing::{Options, Refusal, Written};
 
 // The 64-bit core: the value comes as a two's complement pattern, of an unsigned type as an unsigned number.
 pub fn write(kind: Kind, value: u64, format: u32, options: Options, out: &mut [u8]) -> Written
     ensures { Writes (text_of kind.bits (meaning 64 kind.signed value) format options) (answer kind.signed kind.bits value format options (length out.old)) out.old result out.new }
 {
-    if !kinds::is_known(kind.bits) {
-        return Written::TypeRefused;
-    }
-    if !kinds::in_type(kind.signed, kind.bits, value) {
-        return Written::ValueRefused;
-    }
-    values::write_value(kind.signed, kind.bits, value, format, options, out)
+    let value = Value::judge(kind, value)?;
+    values::write_value(value, format, options, out)
 }
 
 // At the house default.
@@ -27,26 +23,21 @@ pub fn write(kind: Kind, value: u64, format: u32, options: Options, out: &mut [u
 pub fn write_short(kind: Kind, value: u64, format: u32, out: &mut [u8]) -> Written
     ensures { Writes (text_of kind.bits (meaning 64 kind.signed value) format house) (answer kind.signed kind.bits value format house (length out.old)) out.old result out.new }
 {
-    if !kinds::is_known(kind.bits) {
-        return Written::TypeRefused;
-    }
-    if !kinds::in_type(kind.signed, kind.bits, value) {
-        return Written::ValueRefused;
-    }
+    let value = Value::judge(kind, value)?;
     let room = out.len();
     if format <= 2 {
-        let need = values::write_plainly(kind.signed, kind.bits, value, format, out);
+        let need = values::write_plainly(value, format, out);
         return writing::settle(need, room);
     }
     // Hex at once: on the way of the others it would cost a tenth more.
     if format <= 4 {
-        let need = values::write_hex(kind.signed, kind.bits, value, format, out);
+        let need = values::write_hex(value, format, out);
         return writing::settle(need, room);
     }
     if 6 < format {
-        return Written::OptionsRefused;
+        return Err(Refusal::Options);
     }
-    let split = kinds::split_pattern(kind.signed, value);
+    let split = value.kind.split_pattern(value.pattern);
     let need = framed_exponents::write_bare_in_full(format, split.magnitude, split.negative, out);
     writing::settle(need, room)
 }

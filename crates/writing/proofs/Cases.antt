@@ -2,7 +2,7 @@
 -- Assumes nothing.
 use mathlib.Core.Bool.{Bool, true, false, cond}
 use mathlib.Core.List.{List, ◌++◌, append-nil}
-use mathlib.Core.Option.{Option}
+use Rattle.std.specs.Prelude.{Option, None, Ok, Err}
 use mathlib.Core.Path.{◌≡◌, refl, sym, ap, ap₂, ◌∙◌}
 use Prim.Native.Nat.{ℕ, ◌+◌, ◌-◌, ◌≤◌, ◌<◌}
 use native.Mathlib.Omega.{arith}
@@ -17,21 +17,17 @@ use Rattle.kinds.specs.declared.Split.{Split}
 pub use Rattle.kinds.proofs.Sizes.{known-range}
 use Rattle.padding.specs.Padding.{sign_of, prefix_of}
 use Rattle.padding.proofs.Padding.{plan-none, padded-is}
-use Rattle.scaling.specs.Coefficient.{precision_of}
-use Rattle.scaling.specs.declared.Precision.{Precision}
-use Rattle.scaling.specs.declared.Precision.TheVariants.{None}
 use Rattle.scientific.specs.Layout.{exp_text}
 use Rattle.scientific.specs.Sci.{sci}
-use Rattle.writing.specs.Promise.{house, Unframed, known_options, settled, fitted, after, kept_answer, exponent_answer, answer_of, answer, Writes, Places}
+use Rattle.writing.specs.Promise.{Written, house, Unframed, known_options, settled, fitted, after, kept_answer, exponent_answer, answer_of, answer, Writes, Places}
 use Rattle.writing.specs.Text.{exponent_letter, framed, unframed, numeral, text_of}
 use Rattle.writing.specs.declared.Options.{Options}
-use Rattle.writing.specs.declared.Written.TheVariants.{Done, TypeRefused, ValueRefused, OptionsRefused, ExponentRefused, NoRoom}
-use Rattle.writing.specs.declared.Written.{Written}
+use Rattle.writing.specs.declared.Refusal.TheVariants as refusal
 
 -- ---- digits with nothing around them but a minus
 
 module _ (o : Options) (negative : Bool) (format : ℕ) (digits : List ℕ) where
-  pub unframes : {p : Precision} → Unframed o p → framed o negative format digits ≡ unframed negative digits
+  pub unframes : {p : Option ℕ} → Unframed o p → framed o negative format digits ≡ unframed negative digits
   unframes U =
       let w = U.width in
       let k : o.width - (length (sign_of negative o.plus) + (length (prefix_of o.alternate format) + length digits)) ≡ 0 = omega arith in
@@ -56,16 +52,16 @@ settles {t = t} {l = l} P e = record { answers = e ∙ ap (λ (n : ℕ). settled
     go false h = rw h refl
 
 module _ {t l : List ℕ} {need : ℕ} {l' : List ℕ} (P : Places t l need l') where
-  pub settles-room : length l < need → Writes t (fitted t (length l)) l (NoRoom need) l'
+  pub settles-room : length l < need → Writes t (fitted t (length l)) l (Err (refusal.NoRoom need)) l'
   settles-room h = settles P (rw (lt-leb need (length l) h) refl)
 
-  pub settles-done : need ≤ length l → Writes t (fitted t (length l)) l (Done need) l'
+  pub settles-done : need ≤ length l → Writes t (fitted t (length l)) l (Ok need) l'
   settles-done h = settles P (rw (le-leb need (length l) h) refl)
 
 -- ---- the whole text and the one answer, by the form
 
 module _ (bits : ℕ) (z : ℤ) (format : ℕ) (o : Options) (room : ℕ) where
-  pub options-refused : known_options format o ≡ false → answer_of bits z format o room ≡ OptionsRefused
+  pub options-refused : known_options format o ≡ false → answer_of bits z format o room ≡ Err refusal.Options
   unfolding answer_of
   options-refused h = rw h
 
@@ -77,7 +73,7 @@ module _ (bits : ℕ) (z : ℤ) (format : ℕ) (o : Options) (room : ℕ) where
   unfolding text_of
   radix-text h l = rw (ne_eqb format 0 h, le-leb format 4 l)
 
-  pub exponent-text : 4 < format → text_of bits z format o ≡ framed o (negative z) format (exp_text (exponent_letter format) (precision_of o.precision) (nat_abs z))
+  pub exponent-text : 4 < format → text_of bits z format o ≡ framed o (negative z) format (exp_text (exponent_letter format) o.precision (nat_abs z))
   unfolding text_of
   exponent-text l = rw (ne_eqb format 0 (λ e. omega arith), lt-leb format 4 l)
 
@@ -91,9 +87,9 @@ module _ (bits : ℕ) (z : ℤ) (format : ℕ) (o : Options) (room : ℕ) where
     unfolding answer_of
     exponent-answer l = rw (k, lt-leb format 4 l, exponent-text l)
 
-    pub plain-writes : (l : List ℕ) (n : ℕ) (r : Written) (l' : List ℕ) → length l ≡ room → format ≤ 4 → Places (text_of bits z format o) l n l' → r ≡ settled n (length l)
+    pub plain-writes : (l : List ℕ) (r : Written) (l' : List ℕ) → length l ≡ room → format ≤ 4 → Writes (text_of bits z format o) (fitted (text_of bits z format o) (length l)) l r l'
         → Writes (text_of bits z format o) (answer_of bits z format o room) l r l'
-    plain-writes l n r l' i h P e = rw (plain-answer h, ← i) (settles P e)
+    plain-writes l r l' i h W = rw (plain-answer h, ← i) W
 
   -- from what the layers below were given, to the value
   module _ (s : Split) (e : s ≡ split_of z) where
@@ -107,7 +103,7 @@ module _ (bits : ℕ) (z : ℤ) (format : ℕ) (o : Options) (room : ℕ) where
     decimal-shown f = rw (sign, size) (decimal-text f)
 
     pub exponent-writes : known_options format o ≡ true → (l : List ℕ) (r : Written) (l' : List ℕ) → length l ≡ room → 4 < format
-        → Writes (framed o s.negative format (exp_text (exponent_letter format) (precision_of o.precision) s.magnitude)) (exponent_answer o s.negative format s.magnitude (length l)) l r l'
+        → Writes (framed o s.negative format (exp_text (exponent_letter format) o.precision s.magnitude)) (exponent_answer o s.negative format s.magnitude (length l)) l r l'
         → Writes (text_of bits z format o) (answer_of bits z format o room) l r l'
     exponent-writes k l r l' i f W = rw (exponent-answer k f, exponent-text f, ← i, ← sign, ← size) W
 
@@ -137,7 +133,7 @@ house-unknown format h = rw (lt-leb format 6 h)
 -- ---- the answer to an exponent form
 
 module _ (p : Option ℕ) (n : ℕ) (t l : List ℕ) where
-  pub exponent-refused : 99 < (sci p n).expo → Writes t (kept_answer p n t (length l)) l ExponentRefused l
+  pub exponent-refused : 99 < (sci p n).expo → Writes t (kept_answer p n t (length l)) l (Err refusal.Exponent) l
   exponent-refused h = rw (lt-leb (sci p n).expo 99 h) (record { answers = refl; leaves = refl })
 
   pub exponent-kept : (r : Written) (l' : List ℕ) → (sci p n).expo ≤ 99 → Writes t (fitted t (length l)) l r l' → Writes t (kept_answer p n t (length l)) l r l'
@@ -146,11 +142,11 @@ module _ (p : Option ℕ) (n : ℕ) (t l : List ℕ) where
 -- ---- a type and a value that are judged first
 
 module _ (signed : Bool) (bits p format : ℕ) (o : Options) (l : List ℕ) where
-  pub type-refused : known bits ≡ false → Writes (text_of bits (meaning 64 signed p) format o) (answer signed bits p format o (length l)) l TypeRefused l
+  pub type-refused : known bits ≡ false → Writes (text_of bits (meaning 64 signed p) format o) (answer signed bits p format o (length l)) l (Err refusal.Type) l
   unfolding answer
   type-refused h = rw h (record { answers = refl; leaves = refl })
 
-  pub value-refused : known bits ≡ true → is_in_type signed bits (meaning 64 signed p) ≡ false → Writes (text_of bits (meaning 64 signed p) format o) (answer signed bits p format o (length l)) l ValueRefused l
+  pub value-refused : known bits ≡ true → is_in_type signed bits (meaning 64 signed p) ≡ false → Writes (text_of bits (meaning 64 signed p) format o) (answer signed bits p format o (length l)) l (Err refusal.Value) l
   unfolding answer
   value-refused h g = rw (h, g) (record { answers = refl; leaves = refl })
 

@@ -1,11 +1,9 @@
 -- The text of a value by format and options (document 01, "Digits", "Exponent", "Sign and prefix", "Padding"): one definition, over the bits and all whole numbers.
-use Rattle.std.specs.Prelude.{Bool, false, cond, List, ◌++◌, ℕ, eqb, leb, ℤ, nat_abs}
-use Rattle.std.proofs.Math.Option.{Option}
+use Rattle.std.specs.Prelude.{Option, Bool, false, cond, List, ◌++◌, ℕ, eqb, leb, ℤ, nat_abs}
 use Rattle.digits.specs.Text.{decimal}
 use Rattle.kinds.specs.Kinds.{negative, pattern}
 use Rattle.padding.specs.Padding.{sign_of, prefix_of, padded}
 use Rattle.radix.specs.Radix.{radix}
-use Rattle.scaling.specs.Coefficient.{precision_of}
 use Rattle.scientific.specs.Layout.{exp_text}
 use Rattle.writing.specs.declared.Options.{Options}
 
@@ -30,7 +28,7 @@ framed o negative format digits = padded o.zero o.fill o.align o.width (sign_of 
 
 -- The text.
 unfoldable pub text_of : ℕ → ℤ → ℕ → Options → List ℕ
-text_of bits z format o = framed o (minus format z) format (body format bits (precision_of o.precision) z)
+text_of bits z format o = framed o (minus format z) format (body format bits o.precision z)
 
 -- The digits of the forms that need no more than a number, decimal and radix: what the layers below count and write.
 abbrev pub numeral : ℕ → ℕ → List ℕ

@@ -3,11 +3,11 @@
 #![tactic(auto)]
 
 ghost use Rattle.std.specs.Prelude.{◌≡◌};
-ghost use Rattle.writing.specs.Promise.{house, known_options, settled, number, value};
+ghost use Rattle.writing.specs.Promise.{house, refusal_of, known_options, settled, number, value};
 
-use scaling::Precision;
+use kinds::Misfit;
 
-// The options of a call.
+// The options of a call. Fill and alignment are the caller's numbers: one that is none is refused as OPTIONS (`known_options`).
 #[derive(Clone, Copy)]
 pub struct Options {
     pub plus: bool,
@@ -16,19 +16,34 @@ pub struct Options {
     pub fill: u32,
     pub align: u32,
     pub width: u16,
-    pub precision: Precision,
+    // Digits behind the point, in the exponent forms: so many, or as many as are needed.
+    pub precision: Option<u16>,
 }
 
-// The answer: a length, or why there is no text.
-#[derive(Clone, Copy)]
-pub enum Written {
-    Done(usize),
-    TypeRefused,
-    ValueRefused,
-    OptionsRefused,
-    ExponentRefused,
+// Why there is no text. One that has no room says how long it is.
+#[derive(Clone, Copy, Debug, PartialEq, Eq)]
+pub enum Refusal {
+    Type,
+    Value,
+    Options,
+    Exponent,
     NoRoom(usize),
 }
+
+// What is no value of a type is refused.
+impl From<Misfit> for Refusal {
+    ghost from_gives = { λ misfit refusal. refusal ≡ refusal_of misfit };
+
+    fn from(misfit: Misfit) -> Refusal {
+        match misfit {
+            Misfit::Type => Refusal::Type,
+            Misfit::Value => Refusal::Value,
+        }
+    }
+}
+
+// The answer: the length of the text, or why there is none.
+pub type Written = Result<usize, Refusal>;
 
 impl Options {
     // The house default: no flag, fill space, alignment unset, width 0, precision none.
@@ -42,38 +57,34 @@ impl Options {
             fill: 32,
             align: 0,
             width: 0,
-            precision: Precision::None,
+            precision: None,
         }
     }
 }
 
-impl Written {
-    // Document 01's number.
-    pub fn number(self) -> u64
-        ensures { result ≡ number self }
-    {
-        match self {
-            Written::Done(_) => 0,
-            Written::TypeRefused => 5,
-            Written::OptionsRefused => 6,
-            Written::ValueRefused => 7,
-            Written::NoRoom(_) => 8,
-            Written::ExponentRefused => 10,
-        }
+// Document 01's number of an answer.
+// A function for each of the three answers: docs/RULES.md names a definition for each (number, value).
+pub fn number(written: Written) -> u64
+    ensures { result ≡ number written }
+{
+    match written {
+        Ok(_) => 0,
+        Err(Refusal::Type) => 5,
+        Err(Refusal::Options) => 6,
+        Err(Refusal::Value) => 7,
+        Err(Refusal::NoRoom(_)) => 8,
+        Err(Refusal::Exponent) => 10,
     }
+}
 
-    // What document 01 says is returned.
-    pub fn value(self) -> usize
-        ensures { result ≡ value self }
-    {
-        match self {
-            Written::Done(n) => n,
-            Written::TypeRefused => 0,
-            Written::OptionsRefused => 0,
-            Written::ValueRefused => 0,
-            Written::NoRoom(n) => n,
-            Written::ExponentRefused => 0,
-        }
+// What document 01 says is returned.
+pub fn value(written: Written) -> usize
+    ensures { result ≡ value written }
+{
+    match written {
+        Ok(n) => n,
+        Err(Refusal::NoRoom(n)) => n,
+        Err(_) => 0,
     }
 }
 
@@ -81,6 +92,7 @@ impl Written {
 pub fn options_known(format: u32, options: Options) -> bool
     ensures { result ≡ known_options format options }
 {
+    // One test after the other: joined by `&&` they cost each call of lgv_write an instruction more.
     if 6 < format {
         return false;
     }
@@ -98,7 +110,7 @@ pub fn settle(need: usize, room: usize) -> Written
     ensures { result ≡ settled need room }
 {
     if room < need {
-        return Written::NoRoom(need);
+        return Err(Refusal::NoRoom(need));
     }
-    Written::Done(need)
+    Ok(need)
 }

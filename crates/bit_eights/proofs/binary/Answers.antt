@@ -23,14 +23,14 @@ last-eight n = last_text-mod ascii 2 two 8 n
 pub overflow_cast-len : goal.overflow_cast-len
 overflow_cast-len c = record { fits = omega arith }
 
-pub tail8-requires : goal.tail8-requires
-tail8-requires c =
+pub tail-requires : goal.tail-requires
+tail-requires c =
     (omega (arith, c.requires.1), omega (arith, c.requires.2), c.requires.3)
 
 pub returns-then-len-le8 : goal.returns-then-len-le8
 returns-then-len-le8 c =
     tail-ended ascii 2 two c.args.buf.now c.args.end c.args.n 8 (8 - c.args.len) (omega (arith, c.requires.0, c.if-len-le8.true)) (omega (arith, c.requires.0, c.requires.2)) c.requires.3
-    c.tail8.ensures.0 (rw (c.eight_bits.ensures, last-eight c.args.n) at c.tail8.ensures.1)
+    c.tail.ensures.0 (rw (c.eight_bits.ensures, last-eight c.args.n) at c.tail.ensures.1)
 
 pub loop-remain-init : goal.loop-remain-init
 loop-remain-init c =
@@ -46,13 +46,13 @@ room c = omega (arith, c.loop-remain.invariant.0.room, enough c)
 pub overflow_sub-offset : goal.overflow_sub-offset
 overflow_sub-offset c = room (goal.at.overflow_sub-offset c).At-loop-remain
 
-pub put8-requires : goal.put8-requires
-put8-requires c = omega (arith, room (goal.at.put8-requires c).At-loop-remain, c.loop-remain.invariant.0.within)
+pub put-requires : goal.put-requires
+put-requires c = omega (arith, room (goal.at.put-requires c).At-loop-remain, c.loop-remain.invariant.0.within)
 
 pub loop-remain-preserved : goal.loop-remain-preserved
 loop-remain-preserved c =
     let h = room (goal.at.loop-remain-preserved c).At-loop-remain in (
-      rw (c.put8.ensures, c.eight_bits-in-loop-remain.ensures, last-eight c.loop-remain.remain)
+      rw (c.put.ensures, c.eight_bits-in-loop-remain.ensures, last-eight c.loop-remain.remain)
           (eight-store ascii 1 (lit< tt) c.loop-remain.remain (c.loop-remain.offset - 8) c.loop-remain.invariant.0 (enough (goal.at.loop-remain-preserved c).At-loop-remain) (omega arith)),
       omega (arith, c.loop-remain.invariant.1, eight-less ascii 1 (lit< tt) c.loop-remain.remain (enough (goal.at.loop-remain-preserved c).At-loop-remain)),
       omega (arith, c.loop-remain.invariant.1, text-more ascii 2 two 16 c.loop-remain.remain c.loop-remain-test.true),
@@ -68,14 +68,14 @@ overflow_sub-left-2 c = few (goal.at.overflow_sub-left-2 c).After-loop-remain
 pub overflow_cast-left : goal.overflow_cast-left
 overflow_cast-left c = record { fits = omega arith }
 
-pub tail16-requires : goal.tail16-requires
-tail16-requires c =
-    (omega (arith, c.loop-remain.invariant.2), omega (arith, c.loop-remain.invariant.0.room, c.loop-remain.invariant.1), c.loop-remain.invariant.0.within)
+pub tail_two-requires : goal.tail_two-requires
+tail_two-requires c =
+    (omega (arith, c.loop-remain.invariant.2), omega (arith, c.loop-remain.invariant.2), omega (arith, c.loop-remain.invariant.0.room, c.loop-remain.invariant.1), c.loop-remain.invariant.0.within)
 
 pub shape_of-buf : goal.shape_of-buf
-shape_of-buf c = rw (c.tail16.ensures.1, length-sets) c.loop-remain.invariant.0.same
+shape_of-buf c = rw (c.tail_two.ensures.1, length-sets) c.loop-remain.invariant.0.same
 
 pub returns : goal.returns
 returns c =
-    last-sixteen ascii 1 (lit< tt) c.loop-remain.remain c.loop-remain.left c.loop-remain.invariant.0 c.loop-remain.invariant.1 c.loop-remain.invariant.2 (few (goal.at.returns c).After-loop-remain) c.tail16.ensures.0
-    (rw (c.eight_bits-front.ensures, c.eight_bits-back.ensures, last-eight (c.loop-remain.remain / 256), last-eight c.loop-remain.remain) at c.tail16.ensures.1)
+    last-sixteen ascii 1 (lit< tt) c.loop-remain.remain c.loop-remain.left c.loop-remain.invariant.0 c.loop-remain.invariant.1 c.loop-remain.invariant.2 (few (goal.at.returns c).After-loop-remain) c.tail_two.ensures.0
+    (rw (c.eight_bits-front.ensures, c.eight_bits-back.ensures, last-eight (c.loop-remain.remain / 256), last-eight c.loop-remain.remain) at c.tail_two.ensures.1)

@@ -29,12 +29,12 @@ most s = omega (arith, s.requires.0, text-most ascii 8 big 22 s.args.n (lit< tt)
 pub returns-then-len-le8 : goal.returns-then-len-le8
 returns-then-len-le8 c =
     tail-ended ascii 8 big c.args.buf.now c.args.end c.args.n 8 (8 - c.args.len) (omega (arith, c.requires.0, c.if-len-le8.true)) (omega (arith, c.requires.0, c.requires.2)) c.requires.3
-    c.tail8.ensures.0 (rw (c.eight_octal-last.ensures, last-eight c.args.n) at c.tail8.ensures.1)
+    c.tail.ensures.0 (rw (c.eight_octal-last.ensures, last-eight c.args.n) at c.tail.ensures.1)
 
 pub returns-then-len-le16 : goal.returns-then-len-le16
 returns-then-len-le16 c =
-    last-sixteen ascii 3 (lit< tt) c.args.n c.args.len (whole (goal.at.returns-then-len-le16 c).Start) c.requires.0 (omega (arith, c.if-len-le8.false)) c.if-len-le16.true c.tail16.ensures.0
-    (rw (c.eight_octal-back.ensures, c.eight_octal-last.ensures, last-eight (c.args.n / 16777216), last-eight c.args.n) at c.tail16.ensures.1)
+    last-sixteen ascii 3 (lit< tt) c.args.n c.args.len (whole (goal.at.returns-then-len-le16 c).Start) c.requires.0 (omega (arith, c.if-len-le8.false)) c.if-len-le16.true c.tail_two.ensures.0
+    (rw (c.eight_octal-back.ensures, c.eight_octal-last.ensures, last-eight (c.args.n / 16777216), last-eight c.args.n) at c.tail_two.ensures.1)
 
 pub overflow_sub-len-2 : goal.overflow_sub-len-2
 overflow_sub-len-2 c = omega (arith, most (goal.at.overflow_sub-len-2 c).Start)
@@ -44,5 +44,5 @@ returns c =
     let h : 8 < length (text ascii 8 c.args.n) = omega (arith, c.requires.0, c.if-len-le16.false) in
     let rest = eight-store ascii 3 (lit< tt) c.args.n (c.args.end - 8) (whole (goal.at.returns c).Start) h (omega (arith, c.requires.2, c.if-len-le16.false)) in
     let z : 24 - c.args.len ≡ 16 - (c.args.len - 8) = omega (arith, c.if-len-le16.false) in
-    last-sixteen ascii 3 (lit< tt) (c.args.n / 16777216) (c.args.len - 8) rest (omega (arith, c.requires.0, eight-less ascii 3 (lit< tt) c.args.n h)) (omega (arith, c.if-len-le16.false)) (omega (arith, most (goal.at.returns c).Start)) (rw z at c.tail16-2.ensures.0)
-    (rw (c.put8.ensures, c.eight_octal-last.ensures, last-eight c.args.n, c.eight_octal-front.ensures, c.eight_octal-back.ensures, last-eight (c.args.n / 16777216), z) at c.tail16-2.ensures.1)
+    last-sixteen ascii 3 (lit< tt) (c.args.n / 16777216) (c.args.len - 8) rest (omega (arith, c.requires.0, eight-less ascii 3 (lit< tt) c.args.n h)) (omega (arith, c.if-len-le16.false)) (omega (arith, most (goal.at.returns c).Start)) (rw z at c.tail_two-2.ensures.0)
+    (rw (c.put.ensures, c.eight_octal-last.ensures, last-eight c.args.n, c.eight_octal-front.ensures, c.eight_octal-back.ensures, last-eight (c.args.n / 16777216), z) at c.tail_two-2.ensures.1)

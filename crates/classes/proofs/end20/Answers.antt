@@ -18,42 +18,42 @@ in-front n h =
     let d : n / 10000000000000000 ≡ n / 100000000 / 100000000 = sym (div-div-eq-div-mul n 100000000 100000000) in
     rw d (joined 8 (n / 100000000) (omega arith))
 
-pub text8-y-requires : goal.text8-y-requires
-text8-y-requires c = each-digit 8 (c.args.n / 100000000 % 100000000) _ c.eight.ensures
+pub shown-y-requires : goal.shown-y-requires
+shown-y-requires c = each-digit 8 (c.args.n / 100000000 % 100000000) _ c.eight.ensures
 
-pub text4-requires : goal.text4-requires
-text4-requires c = each-digit 4 (c.args.n / 10000000000000000) _ c.four-x.ensures
+pub shown4-requires : goal.shown4-requires
+shown4-requires c = each-digit 4 (c.args.n / 10000000000000000) _ c.four-x.ensures
 
 pub overflow_sub-end : goal.overflow_sub-end
 overflow_sub-end c = omega (arith, text-longer ascii 10 ten 16 c.args.n c.requires.0)
 
-pub tail12-at-requires : goal.tail12-at-requires
-tail12-at-requires c =
-    let h = head-length 4 (c.args.n / 10000000000000000) _ c.four-x.ensures _ c.zeros4-z.ensures (front-some 16 c.args.n c.requires.0) (small c.args.n c.ranges.n.fits) in
+pub tail_two-at-requires : goal.tail_two-at-requires
+tail_two-at-requires c =
+    let h = head-length 4 (c.args.n / 10000000000000000) _ c.four-x.ensures _ c.zeros-z.ensures (front-some 16 c.args.n c.requires.0) (small c.args.n c.ranges.n.fits) in
     let some = text-some ascii 10 ten (c.args.n / 10000000000000000) in
     let all = text-longer ascii 10 ten 16 c.args.n c.requires.0 in
-    (omega arith, omega arith, omega (arith, c.requires.2))
+    (omega arith, omega arith, omega arith, omega (arith, c.requires.2))
 
-pub text8-requires : goal.text8-requires
-text8-requires c = each-digit 8 (c.args.n % 100000000) _ c.eight-2.ensures
+pub shown-requires : goal.shown-requires
+shown-requires c = each-digit 8 (c.args.n % 100000000) _ c.eight-2.ensures
 
 pub overflow_sub-end-2 : goal.overflow_sub-end-2
 overflow_sub-end-2 c = omega (arith, text-longer ascii 10 ten 16 c.args.n c.requires.0)
 
-pub put8-requires : goal.put8-requires
-put8-requires c = omega (arith, text-longer ascii 10 ten 16 c.args.n c.requires.0)
+pub put-requires : goal.put-requires
+put-requires c = omega (arith, text-longer ascii 10 ten 16 c.args.n c.requires.0)
 
 pub returns : goal.returns
 returns c =
     let p = front-some 16 c.args.n c.requires.0 in
     let q = small c.args.n c.ranges.n.fits in
-    let h = head-length 4 (c.args.n / 10000000000000000) _ c.four-x.ensures _ c.zeros4-z.ensures p q in
-    let first = head-text 4 (c.args.n / 10000000000000000) _ c.four-x.ensures _ c.zeros4-z.ensures p q _ c.text4.ensures in
-    let second = last-text 8 (c.args.n / 100000000 % 100000000) _ c.eight.ensures _ c.text8-y.ensures in
-    let third = last-text 8 (c.args.n % 100000000) _ c.eight-2.ensures _ c.text8.ensures in
+    let h = head-length 4 (c.args.n / 10000000000000000) _ c.four-x.ensures _ c.zeros-z.ensures p q in
+    let first = head-text 4 (c.args.n / 10000000000000000) _ c.four-x.ensures _ c.zeros-z.ensures p q _ c.shown4.ensures in
+    let second = last-text 8 (c.args.n / 100000000 % 100000000) _ c.eight.ensures _ c.shown-y.ensures in
+    let third = last-text 8 (c.args.n % 100000000) _ c.eight-2.ensures _ c.shown.ensures in
     let front = ap₂ (λ (u v : List ℕ). u ++ v) first second ∙ in-front c.args.n c.requires.0 in
     let t = ap (λ (v : List ℕ). decimal (c.args.n / 100000000) ++ v) third ∙ joined 8 c.args.n (omega (arith, c.requires.0)) in
     let all = text-longer ascii 10 ten 16 c.args.n c.requires.0 in
     let less = text-longer ascii 10 ten 8 c.args.n (omega (arith, c.requires.0)) in
-    let both = stored_on c.args.buf.now _ _ _ _ (decimal (c.args.n / 100000000)) c.tail12-at.result (c.args.end - 8) c.tail12-at.ensures.1 front c.put8.ensures (omega (arith, c.tail12-at.ensures.0)) in
-    stands c.args.buf.now _ (decimal c.args.n) _ _ c.args.end both t (omega (arith, c.tail12-at.ensures.0)) c.requires.2
+    let both = stored_on c.args.buf.now _ _ _ _ (decimal (c.args.n / 100000000)) c.tail_two-at.result (c.args.end - 8) c.tail_two-at.ensures.1 front c.put.ensures (omega (arith, c.tail_two-at.ensures.0)) in
+    stands c.args.buf.now _ (decimal c.args.n) _ _ c.args.end both t (omega (arith, c.tail_two-at.ensures.0)) c.requires.2

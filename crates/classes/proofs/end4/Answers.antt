@@ -23,17 +23,17 @@ returns-then-n-lt10 c =
     let e = text-small ascii 10 ten c.args.n c.if-n-lt10.true in
     stands c.args.buf.now _ (decimal c.args.n) ((48 + c.args.n) ∷ []) (c.args.end - 1) c.args.end refl (sym e) (omega (arith, one c.args.n c.if-n-lt10.true)) c.requires.2
 
-pub text4-requires : goal.text4-requires
-text4-requires c = each-digit 4 c.args.n _ c.four-x.ensures
+pub shown4-requires : goal.shown4-requires
+shown4-requires c = each-digit 4 c.args.n _ c.four-x.ensures
 
-pub tail4-requires : goal.tail4-requires
-tail4-requires c =
-    let h = head-length 4 c.args.n _ c.four-x.ensures _ c.zeros4-z.ensures (omega arith) c.requires.0 in
+pub tail-requires : goal.tail-requires
+tail-requires c =
+    let h = head-length 4 c.args.n _ c.four-x.ensures _ c.zeros-z.ensures (omega arith) c.requires.0 in
     let m = longer 1 c.args.n (omega arith) in
     (omega arith, omega arith, c.requires.2)
 
 pub returns : goal.returns
 returns c =
-    let h = head-length 4 c.args.n _ c.four-x.ensures _ c.zeros4-z.ensures (omega arith) c.requires.0 in
-    let t = head-text 4 c.args.n _ c.four-x.ensures _ c.zeros4-z.ensures (omega arith) c.requires.0 _ c.text4.ensures in
-    stands c.args.buf.now _ (decimal c.args.n) _ _ c.args.end c.tail4.ensures.1 t (omega (arith, c.tail4.ensures.0)) c.requires.2
+    let h = head-length 4 c.args.n _ c.four-x.ensures _ c.zeros-z.ensures (omega arith) c.requires.0 in
+    let t = head-text 4 c.args.n _ c.four-x.ensures _ c.zeros-z.ensures (omega arith) c.requires.0 _ c.shown4.ensures in
+    stands c.args.buf.now _ (decimal c.args.n) _ _ c.args.end c.tail.ensures.1 t (omega (arith, c.tail.ensures.0)) c.requires.2

@@ -4,17 +4,17 @@ use Rattle.digits.specs.Text.{decimal}
 use Rattle.classes.proofs.Heads.{each-digit, head-length, head-text, stands, longer}
 use Rattle.classes.proofs.end8.Goals as goal
 
-pub text8-requires : goal.text8-requires
-text8-requires c = each-digit 8 c.args.n _ c.eight-x.ensures
+pub shown-requires : goal.shown-requires
+shown-requires c = each-digit 8 c.args.n _ c.eight-x.ensures
 
-pub tail8-requires : goal.tail8-requires
-tail8-requires c =
-    let h = head-length 8 c.args.n _ c.eight-x.ensures _ c.zeros8-z.ensures (omega arith) c.requires.1 in
+pub tail-requires : goal.tail-requires
+tail-requires c =
+    let h = head-length 8 c.args.n _ c.eight-x.ensures _ c.zeros-z.ensures (omega arith) c.requires.1 in
     let m = longer 4 c.args.n c.requires.0 in
     (omega arith, omega arith, c.requires.3)
 
 pub returns : goal.returns
 returns c =
-    let h = head-length 8 c.args.n _ c.eight-x.ensures _ c.zeros8-z.ensures (omega arith) c.requires.1 in
-    let t = head-text 8 c.args.n _ c.eight-x.ensures _ c.zeros8-z.ensures (omega arith) c.requires.1 _ c.text8.ensures in
-    stands c.args.buf.now _ (decimal c.args.n) _ _ c.args.end c.tail8.ensures.1 t (omega (arith, c.tail8.ensures.0)) c.requires.3
+    let h = head-length 8 c.args.n _ c.eight-x.ensures _ c.zeros-z.ensures (omega arith) c.requires.1 in
+    let t = head-text 8 c.args.n _ c.eight-x.ensures _ c.zeros-z.ensures (omega arith) c.requires.1 _ c.shown.ensures in
+    stands c.args.buf.now _ (decimal c.args.n) _ _ c.args.end c.tail.ensures.1 t (omega (arith, c.tail.ensures.0)) c.requires.3

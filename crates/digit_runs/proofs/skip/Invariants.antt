@@ -1,11 +1,7 @@
 -- `digit_runs::skip` meets its contract. The invariant: up to i there are digits. Assumes nothing.
-use Rattle.std.proofs.Common.{◌-◌, length}
 use Rattle.radix.specs.Radix.{digit_byte}
 use Rattle.digit_runs.specs.Runs.{Digits}
 use Rattle.digit_runs.proofs.skip.Given as goal
 
 abbrev pub invariant-loop-i : goal.invariant-loop-i
-invariant-loop-i l = Digits (digit_byte l.letter) l.base l.text l.from l.i
-
-abbrev pub decreases-loop-i : goal.decreases-loop-i
-decreases-loop-i l = length l.text - l.i
+invariant-loop-i l = Digits (digit_byte l.numerals.letter) l.numerals.base l.text l.from l.i

@@ -2,5 +2,5 @@
 use Rattle.edge.proofs.Edge.{at_once}
 use Rattle.edge.proofs.read_any.Goals as goal
 
-pub returns-then-short : goal.returns-then-short
-returns-then-short c = at_once (c.read_short_hex-short.ensures c.if-short.true)
+pub returns-in-Some : goal.returns-in-Some
+returns-in-Some c = at_once c.in-Some.ensures

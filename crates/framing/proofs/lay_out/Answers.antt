@@ -1,5 +1,5 @@
 -- `framing::lay_out` meets its contract. Assumes nothing.
-use mathlib.Core.Path.{◌≡◌, subst}
+use mathlib.Core.Path.{◌≡◌, refl, subst}
 use Prim.Native.Nat.{ℕ, ◌+◌, ◌-◌, ◌≤◌}
 use native.Mathlib.Omega.{arith}
 use lib.ListN.{length}
@@ -19,20 +19,20 @@ overflow_add-len c = record { fits = omega (arith, few (goal.at.overflow_add-len
 pub overflow_add-len-2 : goal.overflow_add-len-2
 overflow_add-len-2 c = record { fits = omega (arith, few (goal.at.overflow_add-len-2 c).After-prefix_length-prefix, c.requires) }
 
-pub overflow_add-front : goal.overflow_add-front
-overflow_add-front c = record { fits = omega (arith, few (goal.at.overflow_add-front c).After-prefix_length-prefix, c.plan-pad.ensures.1) }
+pub overflow_add-end : goal.overflow_add-end
+overflow_add-end c = record { fits = omega (arith, few (goal.at.overflow_add-end c).After-prefix_length-prefix, c.plan-pad.ensures.1) }
 
-pub overflow_add-front-2 : goal.overflow_add-front-2
-overflow_add-front-2 c = record { fits = omega (arith, few (goal.at.overflow_add-front-2 c).After-prefix_length-prefix, c.plan-pad.ensures.1) }
+pub overflow_add-end-2 : goal.overflow_add-end-2
+overflow_add-end-2 c = record { fits = omega (arith, few (goal.at.overflow_add-end-2 c).After-prefix_length-prefix, c.plan-pad.ensures.1) }
 
-pub overflow_add-front-3 : goal.overflow_add-front-3
-overflow_add-front-3 c = record { fits = omega (arith, few (goal.at.overflow_add-front-3 c).After-prefix_length-prefix, c.plan-pad.ensures.1) }
+pub overflow_add-end-3 : goal.overflow_add-end-3
+overflow_add-end-3 c = record { fits = omega (arith, few (goal.at.overflow_add-end-3 c).After-prefix_length-prefix, c.plan-pad.ensures.1) }
+
+pub overflow_add-end-4 : goal.overflow_add-end-4
+overflow_add-end-4 c = record { fits = omega (arith, few (goal.at.overflow_add-end-4 c).After-prefix_length-prefix, c.plan-pad.ensures.1, c.requires) }
 
 pub overflow_add-result : goal.overflow_add-result
-overflow_add-result c = record { fits = omega (arith, c.plan-pad.ensures.1, c.requires) }
-
-pub overflow_add-result-2 : goal.overflow_add-result-2
-overflow_add-result-2 c = record { fits = omega (arith, few (goal.at.overflow_add-result-2 c).After-prefix_length-prefix, c.plan-pad.ensures.1, c.requires) }
+overflow_add-result c = record { fits = omega (arith, few (goal.at.overflow_add-result c).After-prefix_length-prefix, c.plan-pad.ensures.1, c.requires) }
 
 pub returns : goal.returns
 returns c = λ digits e.
@@ -40,4 +40,4 @@ returns c = λ digits e.
     let pre = prefix_of c.args.options.alternate c.args.format in
     let w : c.sign_length-sign.result + (c.prefix_length-prefix.result + c.args.count) ≡ length sgn + (length pre + length digits) = omega arith in
     let q = subst (λ (n : ℕ). Planned c.args.options.zero c.args.options.align (c.args.options.width - n) c.plan-pad.result.before c.plan-pad.result.zeros c.plan-pad.result.behind) w c.plan-pad.ensures.0 in
-    record { planned = q; whole = omega (arith, padded-length c.args.options.zero c.args.options.fill c.args.options.align c.args.options.width sgn pre digits q) }
+    record { planned = q; ends = refl; whole = omega (arith, padded-length c.args.options.zero c.args.options.fill c.args.options.align c.args.options.width sgn pre digits q) }

@@ -43,14 +43,14 @@ write_digits-requires c =
 pub shape_of-out-then-negative : goal.shape_of-out-then-negative
 shape_of-out-then-negative c =
     let q = length-ended (set c.args.out.now 0 45) (c.count_digits-count.result + 1) (numeral c.args.format c.args.n) (omega (arith, c.count_digits-count.ensures)) (simp length-set c.if-out-need.false) in
-    rw c.write_digits.ensures.1 (simp length-set at q)
+    rw c.write_digits.ensures (simp length-set at q)
 
 pub returns-then-negative : goal.returns-then-negative
 returns-then-negative c =
     let d = numeral c.args.format c.args.n in
     rw (below (goal.at.returns-then-negative c).Then-negative)
     (has_room (45 ∷ d) c.args.out.now (c.count_digits-count.result + 1) (omega (arith, c.count_digits-count.ensures)) c.write_digits.new.out c.if-out-need.false
-    (c.write_digits.ensures.1 ∙ behind-front c.args.out.now 0 (c.count_digits-count.result + 1) 45 d (omega (arith, c.count_digits-count.ensures)) c.if-out-need.false))
+    (c.write_digits.ensures ∙ behind-front c.args.out.now 0 (c.count_digits-count.result + 1) 45 d (omega (arith, c.count_digits-count.ensures)) c.if-out-need.false))
 
 pub returns-then-out-count : goal.returns-then-out-count
 returns-then-out-count c =
@@ -59,4 +59,4 @@ returns-then-out-count c =
 pub returns : goal.returns
 returns c =
     let room : c.count_digits-count.result ≤ length c.args.out.now = omega arith in
-    rw (from (goal.at.returns c).Else-negative) (has_room (numeral c.args.format c.args.n) c.args.out.now c.count_digits-count.result c.count_digits-count.ensures c.write_digits-2.new.out room c.write_digits-2.ensures.1)
+    rw (from (goal.at.returns c).Else-negative) (has_room (numeral c.args.format c.args.n) c.args.out.now c.count_digits-count.result c.count_digits-count.ensures c.write_digits-2.new.out room c.write_digits-2.ensures)

@@ -55,14 +55,14 @@ overflow_sub-len c = (in_four (goal.at.overflow_sub-len c).Then-n-lt65536).0
 pub overflow_cast-len : goal.overflow_cast-len
 overflow_cast-len c = record { fits = omega arith }
 
-pub tail4-requires : goal.tail4-requires
-tail4-requires c =
-    let l = in_four (goal.at.tail4-requires c).Then-n-lt65536 in
+pub tail-requires : goal.tail-requires
+tail-requires c =
+    let l = in_four (goal.at.tail-requires c).Then-n-lt65536 in
     (omega arith, omega (arith, c.requires.3), c.requires.4)
 
 pub returns-then-n-lt65536 : goal.returns-then-n-lt65536
 returns-then-n-lt65536 c =
-    (refl, stands (goal.at.returns-then-n-lt65536 c).Start 4 (in_four (goal.at.returns-then-n-lt65536 c).Then-n-lt65536).0 c.tail4.ensures.0 (rw c.four-word.ensures at c.tail4.ensures.1))
+    (refl, stands (goal.at.returns-then-n-lt65536 c).Start 4 (in_four (goal.at.returns-then-n-lt65536 c).Then-n-lt65536).0 c.tail.ensures.0 (rw c.four-word.ensures at c.tail.ensures.1))
 
 in-eight : (c : Then-n-lt4294967296) → (c.args.len ≤ 8) × (4 < c.args.len)
 in-eight c = within c.args.letter c.args.n c.args.len 4 8 c.requires.2 (lit< tt) c.if-n-lt4294967296.true c.if-n-lt65536.false
@@ -73,14 +73,14 @@ overflow_sub-len-then-n-lt4294967296 c = (in-eight (goal.at.overflow_sub-len-the
 pub overflow_cast-len-then-n-lt4294967296 : goal.overflow_cast-len-then-n-lt4294967296
 overflow_cast-len-then-n-lt4294967296 c = record { fits = omega arith }
 
-pub tail8-requires : goal.tail8-requires
-tail8-requires c =
-    let l = in-eight (goal.at.tail8-requires c).Then-n-lt4294967296 in
+pub tail-requires-then-n-lt4294967296 : goal.tail-requires-then-n-lt4294967296
+tail-requires-then-n-lt4294967296 c =
+    let l = in-eight (goal.at.tail-requires-then-n-lt4294967296 c).Then-n-lt4294967296 in
     (omega arith, omega (arith, c.requires.3), c.requires.4)
 
 pub returns-then-n-lt4294967296 : goal.returns-then-n-lt4294967296
 returns-then-n-lt4294967296 c =
-    (refl, stands (goal.at.returns-then-n-lt4294967296 c).Start 8 (in-eight (goal.at.returns-then-n-lt4294967296 c).Then-n-lt4294967296).0 c.tail8.ensures.0 (rw c.eight.ensures at c.tail8.ensures.1))
+    (refl, stands (goal.at.returns-then-n-lt4294967296 c).Start 8 (in-eight (goal.at.returns-then-n-lt4294967296 c).Then-n-lt4294967296).0 c.tail-then-n-lt4294967296.ensures.0 (rw c.eight.ensures at c.tail-then-n-lt4294967296.ensures.1))
 
 in-sixteen : (c : Else-n-lt4294967296) → (c.args.len ≤ 16) × (8 < c.args.len)
 in-sixteen c = within c.args.letter c.args.n c.args.len 8 16 c.requires.2 (lit< tt) c.ranges.n.fits c.if-n-lt4294967296.false
@@ -91,15 +91,15 @@ overflow_sub-len-2 c = (in-sixteen (goal.at.overflow_sub-len-2 c).Else-n-lt42949
 pub overflow_cast-len-2 : goal.overflow_cast-len-2
 overflow_cast-len-2 c = record { fits = omega arith }
 
-pub tail16-requires : goal.tail16-requires
-tail16-requires c =
-    let l = in-sixteen (goal.at.tail16-requires c).Else-n-lt4294967296 in
-    (omega arith, omega (arith, c.requires.3), c.requires.4)
+pub tail_two-requires : goal.tail_two-requires
+tail_two-requires c =
+    let l = in-sixteen (goal.at.tail_two-requires c).Else-n-lt4294967296 in
+    (omega arith, omega arith, omega (arith, c.requires.3), c.requires.4)
 
 pub returns : goal.returns
 returns c =
     let l = in-sixteen (goal.at.returns c).Else-n-lt4294967296 in (
       refl,
-      stands (goal.at.returns c).Start 16 l.0 c.tail16.ensures.0
-          (rw (c.eight-front.ensures, c.eight-back.ensures, drop-joined (digit_byte c.args.letter) 16 hex (16 - c.args.len) 8 8 c.args.n (omega arith)) at c.tail16.ensures.1),
+      stands (goal.at.returns c).Start 16 l.0 c.tail_two.ensures.0
+          (rw (c.eight-front.ensures, c.eight-back.ensures, drop-joined (digit_byte c.args.letter) 16 hex (16 - c.args.len) 8 8 c.args.n (omega arith)) at c.tail_two.ensures.1),
     )

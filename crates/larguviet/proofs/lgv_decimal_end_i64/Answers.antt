@@ -3,4 +3,4 @@ use mir.Facts.{to_z-of_z}
 use Rattle.larguviet.proofs.lgv_decimal_end_i64.Goals as goal
 
 pub returns : goal.returns
-returns c = simp (to_z-of_z c.ranges.value) at c.end_at_i64.ensures
+returns c = simp (to_z-of_z c.ranges.value) at c.end_at.ensures

@@ -3,4 +3,4 @@ use Rattle.edge.proofs.Edge.{edged}
 use Rattle.larguviet.proofs.lgv_write_short.Goals as goal
 
 pub returns : goal.returns
-returns c = edged c.write_short-written.ensures c.number.ensures c.value.ensures
+returns c = edged c.write_short.ensures c.from.ensures.0 c.from.ensures.1

@@ -8,24 +8,24 @@ use Rattle.outcomes.proofs.of_pattern.Goals as goal
 
 pub overflow_sub-result-then-half-p-2 : goal.overflow_sub-result-then-half-p-2
 overflow_sub-result-then-half-p-2 c =
-    rw (one_shifted 64 (c.args.bits - 1) (omega arith)) (omega (arith, pow_mono {i = c.args.bits - 1} {j = 63} (omega arith)))
+    rw (one_shifted 64 (c.args.target.kind.bits - 1) (omega arith)) (omega (arith, pow_mono {i = c.args.target.kind.bits - 1} {j = 63} (omega arith)))
 
 pub returns-then-half-p : goal.returns-then-half-p
 returns-then-half-p c =
-    let e = one_shifted 64 (c.args.bits - 1) (omega arith) in
-    rw c.if-signed.true (simp e (pattern-high c.args.bits c.args.p c.requires.0 (simp e at c.if-p-half.true) (simp e at c.if-half-p.true) c.requires.1))
+    let e = one_shifted 64 (c.args.target.kind.bits - 1) (omega arith) in
+    rw c.if-target.true (simp e (pattern-high c.args.target.kind.bits c.args.p c.args.target.fits.0 (simp e at c.if-p-half.true) (simp e at c.if-half-p.true) c.args.target.fits.1))
 
 pub returns-else-half-p : goal.returns-else-half-p
 returns-else-half-p c =
-    let e = one_shifted 64 (c.args.bits - 1) (omega arith) in
-    rw c.if-signed.true (pattern-signed-low c.args.bits c.args.p c.requires.0 (simp e at c.if-p-half.true) (simp e at c.if-half-p.false))
+    let e = one_shifted 64 (c.args.target.kind.bits - 1) (omega arith) in
+    rw c.if-target.true (pattern-signed-low c.args.target.kind.bits c.args.p c.args.target.fits.0 (simp e at c.if-p-half.true) (simp e at c.if-half-p.false))
 
-pub returns-else-signed : goal.returns-else-signed
-returns-else-signed c =
-    let e = one_shifted 64 (c.args.bits - 1) (omega arith) in
-    rw c.if-signed.false (pattern-low c.args.bits c.args.p c.requires.0 (simp e at c.if-p-half.true))
+pub returns-else-target : goal.returns-else-target
+returns-else-target c =
+    let e = one_shifted 64 (c.args.target.kind.bits - 1) (omega arith) in
+    rw c.if-target.false (pattern-low c.args.target.kind.bits c.args.p c.args.target.fits.0 (simp e at c.if-p-half.true))
 
 pub returns : goal.returns
 returns c =
-    let e = one_shifted 64 (c.args.bits - 1) (omega arith) in
-    pattern-out c.args.bits c.args.p c.requires.0 c.args.signed (simp e at c.if-p-half.false)
+    let e = one_shifted 64 (c.args.target.kind.bits - 1) (omega arith) in
+    pattern-out c.args.target.kind.bits c.args.p c.args.target.fits.0 c.args.target.kind.signed (simp e at c.if-p-half.false)

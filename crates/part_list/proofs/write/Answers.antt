@@ -1,8 +1,13 @@
--- What `part_walk::write_before` asks in `part_list::write`: the number 0 says that the text has room. Assumes nothing.
+-- `part_list::write` meets its contract: DONE says that the text has room, and the promise is kept by writing it. Assumes nothing.
+use mathlib.Core.Path.{refl, sym, ◌∙◌}
 use native.Mathlib.Omega.{arith}
-use Rattle.part_list.proofs.Judged.{has_room}
+use Rattle.part_answers.proofs.Answers.{wrote-done, writes-done}
 use Rattle.part_list.proofs.write.Goals as goal
 
 pub write_before-requires : goal.write_before-requires
 write_before-requires c =
-    has_room c.args.sign c.args.list.now c.args.src.now c.args.out.now (c.judge-answer.ensures _ _ _ c.length.ensures) (omega arith) c.value.ensures
+    let d = wrote-done _ _ _ _ _ (sym (c.judge.ensures _ _ _ c.length.ensures) ∙ c.in_ok-need.was) in
+    (d.0, omega (arith, d.1), d.2)
+
+pub returns : goal.returns
+returns c = writes-done _ _ _ _ _ (sym c.in_ok-need.was ∙ c.judge.ensures _ _ _ c.length.ensures) refl c.write_before.ensures.1

@@ -1,10 +1,13 @@
 -- `part_steps::scan_start` meets its contract. Assumes nothing.
-use mathlib.Core.Path.{sym}
+use mathlib.Core.Path.{◌≡◌, sym}
+use mathlib.Core.Bool.{true, false}
+use borrow.Author.Rules.{rules}
+use Rattle.parts.specs.Parts.{known}
 use Rattle.part_answers.proofs.Answers.{sign-unknown, sign-known}
 use Rattle.part_steps.proofs.scan_start.Goals as goal
 
-pub returns-then-sign-le2 : goal.returns-then-sign-le2
-returns-then-sign-le2 c n = sym (sign-known n c.args.sign c.if-sign-le2.true c.sign_length.ensures)
+pub returns-in-Unknown : goal.returns-in-Unknown
+returns-in-Unknown c n = let h : known c.args.sign ≡ false = search rules in sym (sign-unknown n c.args.sign h)
 
-pub returns : goal.returns
-returns c n = sym (sign-unknown n c.args.sign c.if-sign-le2.false)
+pub returns-in_default : goal.returns-in_default
+returns-in_default c n = let h : known c.args.sign ≡ true = search rules in sym (sign-known n c.args.sign h c.length.ensures)

@@ -1,15 +1,18 @@
 -- `reader::read_short_hex` meets its contract. Assumes nothing.
-use mathlib.Core.Bool.{false≢true}
+use Rattle.std.specs.Prelude.{Ok}
+use mathlib.Core.Path.{subst, ◌≡◌}
+use Prim.Native.Nat.{ℕ}
+use Rattle.std.proofs.Common.{rules}
+use Rattle.std.proofs.lemmas.Option.{IfSome_then}
+use Rattle.formats.specs.Formats.{numeral_code}
+use Rattle.formats.specs.declared.Numeral.TheVariants.{Hex}
+use Rattle.reader.specs.Answers.{Answers}
 use Rattle.reader.proofs.Outcomes.{hex-answer}
 use Rattle.reader.proofs.read_short_hex.Goals as goal
 
-pub returns-then-format-lt3 : goal.returns-then-format-lt3
-returns-then-format-lt3 c = λ e. absurd (false≢true e)
-
-pub returns-then-format-gt4 : goal.returns-then-format-gt4
-returns-then-format-gt4 c = λ e. absurd (false≢true e)
-
 pub returns : goal.returns
-returns c = λ e.
-    let q = c.short_hex.ensures e in
-    hex-answer c.args.kind.signed c.args.kind.bits c.args.format c.args.text.now c.first_letter.result c.if-format-lt3.false c.if-format-gt4.false c.first_letter.ensures.2 c.first_letter.ensures.3 q.0 q.1 q.2
+returns c =
+    let e : numeral_code (Hex c.in-Ok-Numeral-Hex.case) ≡ c.args.format = search rules in
+    IfSome_then c.short_hex.result c.short_hex.ensures
+    (λ v q. subst (λ (code : ℕ). Answers c.args.kind.signed c.args.kind.bits code c.args.text.now (Ok v)) e
+    (hex-answer c.args.kind.signed c.args.kind.bits c.args.text.now c.in-Ok-Numeral-Hex.case q.0 q.1 q.2))

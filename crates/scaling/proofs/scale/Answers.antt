@@ -13,5 +13,5 @@ fixed-requires c = (omega (arith, c.digit_count.ensures, T.decimal-are c.args.n)
 pub returns-in-None : goal.returns-in-None
 returns-in-None c = rw c.in-None.is c.in_full.ensures
 
-pub returns-in-Digits : goal.returns-in-Digits
-returns-in-Digits c = rw c.in-Digits.is c.fixed.ensures
+pub returns-in-Some : goal.returns-in-Some
+returns-in-Some c = rw c.in-Some.is c.fixed.ensures

@@ -1,14 +1,8 @@
 -- `twenty_digits::up_to_sixteen` meets its contract. Assumes nothing.
-use Rattle.std.proofs.Common.{refl, arith, lit≤}
+use Rattle.std.proofs.Common.{arith, lit≤}
 use Rattle.digit_words.proofs.Masks.{or-zero}
 use Rattle.twenty_digits.proofs.Numbers.{faultless, sixteen-number}
 use Rattle.twenty_digits.proofs.up_to_sixteen.Goals as goal
-
-pub returns-then-faults-ne0 : goal.returns-then-faults-ne0
-returns-then-faults-ne0 c = λ z. absurd (z refl)
-
-pub returns-then-x-eq0 : goal.returns-then-x-eq0
-returns-then-x-eq0 c = λ z. absurd (z refl)
 
 pub number_before-requires : goal.number_before-requires
 number_before-requires c = (c.faults-2.ensures (or-zero c.faults.result c.faults-2.result c.if-faults-ne0.false).1, omega arith)
@@ -17,7 +11,7 @@ pub number-requires : goal.number-requires
 number-requires c = (lit≤ tt, lit≤ tt, c.faults.ensures (or-zero c.faults.result c.faults-2.result c.if-faults-ne0.false).0)
 
 pub returns : goal.returns
-returns c = λ z.
+returns c =
     let o = or-zero c.faults.result c.faults-2.result c.if-faults-ne0.false in
     sixteen-number c.args.text.now c.load8.result c.figures-w.result c.load8-2.result c.figures-x.result _ _ c.requires.0 c.requires.1
     c.load8.ensures (faultless (c.faults.ensures o.0) c.figures-w.ensures) c.number.ensures.0 c.load8-2.ensures (faultless (c.faults-2.ensures o.1) c.figures-x.ensures) c.number_before.ensures.0

@@ -1,21 +1,12 @@
 -- `twenty_digits::up_to_twenty` meets its contract. Assumes nothing.
-use Rattle.std.proofs.Common.{refl, arith, lit≤}
+use Rattle.std.proofs.Common.{arith, lit≤}
 use lib.Bits.{bit_or}
 use Rattle.digit_words.proofs.Masks.{or-zero}
 use Rattle.twenty_digits.proofs.Numbers.{faultless, twenty-number}
 use Rattle.twenty_digits.proofs.up_to_twenty.Goals as goal
 
-pub returns-then-faults-ne0 : goal.returns-then-faults-ne0
-returns-then-faults-ne0 c = λ z. absurd (z refl)
-
-pub returns-then-x-eq0 : goal.returns-then-x-eq0
-returns-then-x-eq0 c = λ z. absurd (z refl)
-
 pub number_before-top-requires : goal.number_before-top-requires
 number_before-top-requires c = (c.faults-3.ensures (or-zero c.faults-2.result c.faults-3.result (or-zero c.faults.result (bit_or c.faults-2.result c.faults-3.result) c.if-faults-ne0.false).1).1, omega arith)
-
-pub returns-then-top-gt1843 : goal.returns-then-top-gt1843
-returns-then-top-gt1843 c = λ z. absurd (z refl)
 
 pub number-requires : goal.number-requires
 number-requires c = (lit≤ tt, lit≤ tt, c.faults-2.ensures (or-zero c.faults-2.result c.faults-3.result (or-zero c.faults.result (bit_or c.faults-2.result c.faults-3.result) c.if-faults-ne0.false).1).0)
@@ -24,7 +15,7 @@ pub number-requires-2 : goal.number-requires-2
 number-requires-2 c = (lit≤ tt, lit≤ tt, c.faults.ensures (or-zero c.faults.result (bit_or c.faults-2.result c.faults-3.result) c.if-faults-ne0.false).0)
 
 pub returns : goal.returns
-returns c = λ z.
+returns c =
     let o = or-zero c.faults.result (bit_or c.faults-2.result c.faults-3.result) c.if-faults-ne0.false in
     let p = or-zero c.faults-2.result c.faults-3.result o.1 in
     twenty-number c.args.text.now c.load8.result c.figures-w.result c.load8-2.result c.figures-m.result c.load8-3.result c.figures-x.result _ _ _ c.requires.0 c.requires.1

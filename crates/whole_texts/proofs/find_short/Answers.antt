@@ -13,5 +13,5 @@ slice_bounds-number_of-start c = front-inside c.front-start.ensures c.requires
 pub returns : goal.returns
 returns c = (
   front-allowed c.front-start.ensures,
-  λ z f. short-decimal c.args.text.now _ _ (front-inside c.front-start.ensures c.requires) (c.number_of.ensures z) c.args.may c.front-start.ensures (λ h. f (lt-ltb 0 c.front-start.result h)),
+  λ f. short-decimal c.args.text.now _ _ (front-inside c.front-start.ensures c.requires) c.in_ok-magnitude.ensures c.args.may c.front-start.ensures (λ h. f (lt-ltb 0 c.front-start.result h)),
 )

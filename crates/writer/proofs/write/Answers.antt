@@ -1,22 +1,15 @@
 -- `writer::write` meets its contract. Assumes nothing.
-use mathlib.Core.Path.{sym, ◌∙◌}
-use Rattle.writing.proofs.Cases.{known-range, type-refused, value-refused, judged}
+use mathlib.Core.Path.{ap}
+use Rattle.std.specs.Prelude.{Err}
+use Rattle.std.proofs.lemmas.Result.{err_from_is_err_and}
+use Rattle.writer.proofs.Judged.{of_value, of_misfit}
 use Rattle.writer.proofs.write.Goals as goal
 
-pub returns-then-not-is_known : goal.returns-then-not-is_known
-returns-then-not-is_known c = type-refused c.args.kind.signed c.args.kind.bits c.args.value c.args.format c.args.options c.args.out.now (sym c.is_known.ensures ∙ c.if-not-is_known.true)
-
-pub in_type-requires : goal.in_type-requires
-in_type-requires c = known-range _ (sym c.is_known.ensures ∙ c.if-not-is_known.false)
-
-pub returns-then-not-in_type : goal.returns-then-not-in_type
-returns-then-not-in_type c =
-    value-refused c.args.kind.signed c.args.kind.bits c.args.value c.args.format c.args.options c.args.out.now (sym c.is_known.ensures ∙ c.if-not-is_known.false) (sym c.in_type.ensures ∙ c.if-not-in_type.true)
-
-pub write_value-requires : goal.write_value-requires
-write_value-requires c =
-    (sym c.is_known.ensures ∙ c.if-not-is_known.false, sym c.in_type.ensures ∙ c.if-not-in_type.false)
+pub returns-in_err-value : goal.returns-in_err-value
+returns-in_err-value c =
+    let p = err_from_is_err_and c.from_residual.result c.from_residual.ensures.1 in
+    let no = c.in_err-value.ensures in
+    rw (p.1, p.2) (of_misfit c.args.kind c.args.value c.in_err-value.field-0.0 c.args.format c.args.options c.args.out.now (λ e. no.no_type (ap Err e)) (λ e. no.no_value (ap Err e)))
 
 pub returns : goal.returns
-returns c =
-    judged c.args.kind.signed c.args.kind.bits c.args.value c.args.format c.args.options c.args.out.now (sym c.is_known.ensures ∙ c.if-not-is_known.false) (sym c.in_type.ensures ∙ c.if-not-in_type.false) c.write_value.result c.write_value.new.out c.write_value.ensures
+returns c = of_value c.args.kind c.args.value c.in_ok-value.value c.args.format c.args.options c.in_ok-value.ensures.fits c.write_value.ensures

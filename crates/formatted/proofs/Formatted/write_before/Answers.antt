@@ -64,9 +64,9 @@ write_before-first-requires c =
     let i = c.requires.0.0 in
     (i, rest-room _ _ (parts_of f) [] f.first l i, l.within)
 
-pub write_sign-requires : goal.write_sign-requires
-write_sign-requires c =
-    let at = goal.at.write_sign-requires c in
+pub write_before-requires : goal.write_before-requires
+write_before-requires c =
+    let at = goal.at.write_before-requires c in
     let l = left3 at.After-write_before-first (left2 at.After-write_before-second (left1 at.After-write_before-third)) in
     (rest-sign-room _ _ (parts_of c.args.self) l, l.within)
 
@@ -74,4 +74,4 @@ pub returns : goal.returns
 returns c =
     let at = goal.at.returns c in
     let l = left3 at.After-write_before-first (left2 at.After-write_before-second (left1 at.After-write_before-third)) in
-    rest-sign _ _ (parts_of c.args.self) l c.requires.0 c.write_sign.ensures.0 c.write_sign.ensures.1
+    rest-sign _ _ (parts_of c.args.self) l c.requires.0 c.write_before.ensures.0 c.write_before.ensures.1

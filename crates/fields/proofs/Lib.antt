@@ -1,2 +1,0 @@
--- A law of the fields of a line.
-pub mod Fields

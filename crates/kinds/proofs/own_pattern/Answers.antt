@@ -1,8 +1,0 @@
--- `kinds::own_pattern` meets its contract. Assumes nothing.
-use mathlib.Core.Path.{◌∙◌}
-use Rattle.kinds.proofs.Patterns.{own-meaning, shifted_back}
-use Rattle.kinds.proofs.own_pattern.Goals as goal
-
-pub returns : goal.returns
-returns c =
-    shifted_back 64 c.args.bits c.args.p c.requires.1 ∙ own-meaning 64 c.args.bits c.args.signed c.args.p c.requires.0 c.requires.1 c.ranges.p.fits c.requires.2

@@ -1,2 +1,0 @@
--- What write cites of an answer.
-mod Judged

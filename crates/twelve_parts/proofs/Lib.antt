@@ -1,2 +1,0 @@
--- Laws of twelve parts in memory, for walks by hand.
-mod Twelve

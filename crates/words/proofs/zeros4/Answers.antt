@@ -1,6 +1,0 @@
--- `words::zeros4` meets its contract. Assumes nothing.
-use Rattle.words.proofs.Zeros.{zeros-bytes}
-use Rattle.words.proofs.zeros4.Goals as goal
-
-pub returns : goal.returns
-returns c = zeros-bytes 4 c.args.x
