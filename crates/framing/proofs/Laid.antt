@@ -1,17 +1,17 @@
 -- A text that is laid out in a buffer, and the plain digits that it is laid around.
 -- Assumes nothing.
-use mathlib.Core.Bool.{Bool, true, false}
+use mathlib.Core.Bool.{Bool, true, false, cond}
 use Rattle.std.specs.Prelude.{Ok, Err}
 use mathlib.Core.List.{List, ◌++◌, append_assoc}
 use mathlib.Core.Path.{◌≡◌, refl, sym, ap, ◌∙◌}
 use Prim.Native.Nat.{ℕ, ◌+◌, ◌-◌, ◌^◌, ◌≤◌, ◌<◌}
 use native.Mathlib.Omega.{arith}
 use native.Mathlib.Nat.{lt_of_lt_of_le}
-use lib.Dec.{eqb, lit<, lit≤}
+use lib.Dec.{eqb, leb, lit<, lit≤}
 use borrow.Author.Tests.{ne_eqb, le-leb}
 use lib.ListN.{length, take, drop, replicate, length-append, length-replicate}
 use lib.Seq.{length-take-le, take_at, drop-append-add, drop-drop}
-use Rattle.buffer.specs.AtEnd.{ended}
+use Rattle.buffer.specs.AtEnd.{ended, begun}
 use Rattle.buffer.proofs.AtEnd.{length-ended, ended-on, ended-whole}
 use Rattle.digits.specs.Text.{ascii, decimal}
 use Rattle.digits.proofs.Text.{text-most}
@@ -19,7 +19,7 @@ use Rattle.padding.specs.Padding.{sign_of, prefix_of}
 use Rattle.padding.proofs.Padding.{padded-is, padded-length}
 use Rattle.radix.specs.Radix.{radix}
 use Rattle.radix.proofs.Lengths.{radix-most}
-use Rattle.writing.specs.Promise.{fitted, Writes}
+use Rattle.writing.specs.Promise.{Written, value, after, fitted, Writes, Places}
 use Rattle.writing.specs.Text.{framed, numeral}
 use Rattle.writing.specs.declared.Options.{Options}
 use Rattle.writing.proofs.Cases.{lacks-room, settles-room, settles-done}
@@ -105,3 +105,15 @@ module _ {t l : List ℕ} where
 
   pub around-lacks : {r : Refusal} {l' : List ℕ} → (r ≡ refusal.NoRoom (length t)) × (length l < length t) × (l' ≡ l) → Writes t (fitted t (length l)) l (Err r) l'
   around-lacks {r} {l'} S = rw (S.0, S.2) (settles-room (lacks-room t l (length t) refl S.1) S.1)
+
+  -- what an answer says of room, told as a length alone
+  pub answer-places : {r : Written} {l' : List ℕ} → Writes t (fitted t (length l)) l r l' → Places t l (value r) l'
+  answer-places {r} {l'} W = record { long = ap value W.answers ∙ long-is (leb (length t) (length l)) refl; leaves = W.leaves ∙ left-is (leb (length t) (length l)) refl }
+    where
+      long-is : (b : Bool) → leb (length t) (length l) ≡ b → value (fitted t (length l)) ≡ length t
+      long-is true e = rw e refl
+      long-is false e = rw e refl
+
+      left-is : (b : Bool) → leb (length t) (length l) ≡ b → after (fitted t (length l)) t l ≡ cond (leb (length t) (length l)) (begun l t) l
+      left-is true e = rw e refl
+      left-is false e = rw e refl

@@ -22,7 +22,7 @@ pub struct Layout {
 }
 
 // The layout of a text with so many digits.
-fn lay_out(options: Options, negative: bool, format: u32, count: usize) -> Layout
+pub fn lay_out(options: Options, negative: bool, format: u32, count: usize) -> Layout
     requires { count ≤ 131072 }
     ensures { (digits : List ℕ) → length digits ≡ count → Laid options negative format digits result }
 {
@@ -162,14 +162,8 @@ pub fn write_bare(format: u32, n: u64, negative: bool, out: &mut [u8]) -> usize
     count
 }
 
-// Digits with what the options put around them.
-pub fn write_framed(
-    format: u32,
-    n: u64,
-    negative: bool,
-    options: Options,
-    out: &mut [u8],
-) -> Written
+// Digits with what the options put around them, told as an answer: the whole length, or that it has no room.
+pub fn fit_framed(format: u32, n: u64, negative: bool, options: Options, out: &mut [u8]) -> Written
     requires { options.fill ≤ 126 }
     ensures { Writes (framed options negative format (numeral format n)) (fitted (framed options negative format (numeral format n)) (length out.old)) out.old result out.new }
 {
@@ -177,4 +171,12 @@ pub fn write_framed(
     let layout = put_around(options, negative, format, count, out)?;
     write_digits(format, n, count, out, layout.end);
     Ok(layout.need)
+}
+
+// The same without a refusal: the whole length, and in out where that has room.
+pub fn write_framed(format: u32, n: u64, negative: bool, options: Options, out: &mut [u8]) -> usize
+    requires { options.fill ≤ 126 }
+    ensures { Places (framed options negative format (numeral format n)) out.old result out.new }
+{
+    writing::value(fit_framed(format, n, negative, options, out))
 }

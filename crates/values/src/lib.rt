@@ -72,7 +72,9 @@ fn write_framed(value: Value, format: u32, options: Options, out: &mut [u8]) -> 
 {
     if format <= 4 {
         let number = shown(value, format);
-        return framing::write_framed(format, number.magnitude, number.negative, options, out);
+        let room = out.len();
+        let need = framing::write_framed(format, number.magnitude, number.negative, options, out);
+        return writing::settle(need, room);
     }
     let split = value.kind.split_pattern(value.pattern);
     framed_exponents::write_framed_exponent(format, split.magnitude, split.negative, options, out)
