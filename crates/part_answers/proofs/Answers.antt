@@ -16,7 +16,7 @@ use Rattle.parts.specs.Parts.{known, known_part, all_known, leaves_source, Insid
 use Rattle.parts.proofs.Text.{sign-short, length-text}
 use Rattle.parts.specs.declared.Part.{Part}
 use Rattle.parts.specs.declared.Sign.{Sign}
-use Rattle.part_answers.specs.Answers.{Answer, first_out, checked, measured, wrote, after, Writes}
+use Rattle.part_answers.specs.Answers.{Answer, first_out, checked, measured, wrote, after, Writes, number_of, value_of}
 use Rattle.part_answers.specs.declared.Refusal.{Refusal}
 use Rattle.part_answers.specs.declared.Refusal.TheVariants as refusal
 
@@ -64,12 +64,16 @@ by-measured fine n sign ps =
     sym (cond_instead fine (known sign && all_known ps) (first_out (Ok k) n 0 ps) (Err refusal.Options)
     ∙ ap (λ (a : Answer). cond (known sign && all_known ps) a (Err refusal.Options)) (first-instead fine k n 0 ps))
 
--- ---- what DONE says of the length: it is the held sum
+-- ---- what DONE says of the length: it is the held sum, and no part leaves its source
 
 module _ (n : ℕ) (sign : Sign) (ps : List Part) {k : ℕ} (e : measured n sign ps ≡ Ok k) where
   pub done_held : k ≡ held (true_length sign ps)
   unfolding measured
   done_held = let h = (passed (Ok (held (true_length sign ps))) n sign ps e).1 in cc
+
+  pub done-inside : Inside n ps
+  unfolding measured
+  done-inside = (passed (Ok (held (true_length sign ps))) n sign ps e).0
 
 -- ---- no part, and one part more
 
@@ -132,6 +136,9 @@ module _ (n : ℕ) (sign : Sign) (ps : List Part) (p : Part) where
     pub more-refused : (r : Refusal) → measured n sign ps ≡ Err r → measured n sign (ps ++ (p ∷ [])) ≡ Err r
     more-refused r e = more-known ∙ rw e
 
+    pub more-out : (i : ℕ) → measured n sign ps ≡ Err (refusal.Part i) → measured n sign (ps ++ (p ∷ [])) ≡ Err (refusal.Part i)
+    more-out i = more-refused (refusal.Part i)
+
     pub more-leaves : (k : ℕ) → measured n sign ps ≡ Ok k → leaves_source n p ≡ true → measured n sign (ps ++ (p ∷ [])) ≡ Err (refusal.Part (length ps))
     more-leaves k e l = more-known ∙ rw (e, l)
 
@@ -150,6 +157,9 @@ module _ (n room : ℕ) (sign : Sign) (ps : List Part) where
 
   pub wrote-refused : (r : Refusal) → measured n sign ps ≡ Err r → wrote n room sign ps ≡ Err r
   wrote-refused r e = wrote_by ∙ rw e
+
+  pub wrote-out : (i : ℕ) → measured n sign ps ≡ Err (refusal.Part i) → wrote n room sign ps ≡ Err (refusal.Part i)
+  wrote-out i = wrote-refused (refusal.Part i)
 
   pub wrote-no-room : (k : ℕ) → measured n sign ps ≡ Ok k → room < k → wrote n room sign ps ≡ Err (refusal.NoRoom k)
   wrote-no-room k e h =
@@ -175,6 +185,12 @@ module _ (n room : ℕ) (sign : Sign) (ps : List Part) where
       fits false l h = absurd (cc)
 
 -- ---- the promise
+
+pub is-done : (w : Answer) → number_of w ≡ 0 → w ≡ Ok (value_of w)
+is-done (Ok n) e = refl
+is-done (Err refusal.Options) e = absurd (omega arith)
+is-done (Err (refusal.Part i)) e = absurd (omega arith)
+is-done (Err (refusal.NoRoom n)) e = absurd (omega arith)
 
 -- after every refusal it is kept by leaving the buffer alone
 pub left_alone : (sign : Sign) (ps : List Part) (src out : List ℕ) {w : Answer} (r : Refusal) → w ≡ wrote (length src) (length out) sign ps → w ≡ Err r → Writes sign ps src out w out

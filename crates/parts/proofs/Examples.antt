@@ -5,7 +5,7 @@ use mathlib.Core.List.{List, [], ◌∷◌}
 use Prim.Native.Nat.{ℕ}
 use Rattle.digits.specs.Digits.{up_to, bare, digits}
 use Rattle.digits.specs.Text.{text}
-use Rattle.parts.specs.Parts.{sign_text, part_text, parts_text, text_of, zero_part, num_part, copy_part}
+use Rattle.parts.specs.Parts.{sign_of, sign_text, part_of, part_text, parts_text, text_of, zero_part, num_part, copy_part}
 use Rattle.parts.specs.declared.Sign.TheVariants as sign
 
 -- the source `abc`
@@ -26,3 +26,12 @@ exponent-is = refl
 nothing_is : text_of sign.None abc [] ≡ []
 unfolding text_of sign_text parts_text
 nothing_is = refl
+
+-- a code above 2 is refused; its text is that of 2: `+` for a sign, and `bc` for a part that came with a run
+unknown-sign : sign_text (sign_of 3) ≡ 43 ∷ []
+unfolding sign_text
+unknown-sign = refl
+
+unknown-part : part_text abc (part_of 3 0 0 1 2) ≡ 98 ∷ 99 ∷ []
+unfolding part_text abc
+unknown-part = refl

@@ -7,26 +7,26 @@ use Rattle.parts.specs.declared.Part.TheVariants as part
 use Rattle.parts.specs.declared.Sign.{Sign}
 use Rattle.parts.specs.declared.Sign.TheVariants as sign
 
--- A sign code: 0 none, 1 minus, 2 plus. A code above 2 is unknown: it is refused, and nothing else is said of it.
+-- A sign code: 0 none, 1 minus, 2 plus. A code above 2 is unknown: it is refused, and has the text of a plus.
 abbrev pub sign_of : ℕ → Sign
 sign_of zero = sign.None
 sign_of (suc zero) = sign.Minus
 sign_of (suc (suc zero)) = sign.Plus
 sign_of (suc (suc (suc code))) = sign.Unknown
 
--- A part by the code of its kind: 0, n zeros; 1, a number; 2, the run of len bytes of the source from start on. A code above 2 is as unknown.
+-- A part by the code of its kind: 0, n zeros; 1, a number; 2, the run of len bytes of the source from start on. A code above 2 is as unknown, and has the text of that run.
 abbrev pub part_of : (kind number zeros start len : ℕ) → Part
 part_of zero number n start len = Zero n
 part_of (suc zero) number n start len = Num number
 part_of (suc (suc zero)) number n start len = Copy start len
-part_of (suc (suc (suc kind))) number n start len = part.Unknown
+part_of (suc (suc (suc kind))) number n start len = part.Unknown start len
 
 abbrev pub known : Sign → Bool
 known sign.Unknown = false
 known _ = true
 
 abbrev pub known_part : Part → Bool
-known_part part.Unknown = false
+known_part (part.Unknown start len) = false
 known_part _ = true
 
 unfoldable pub all_known : List Part → Bool
@@ -34,16 +34,17 @@ all_known [] = true
 all_known (p ∷ ps) = known_part p && all_known ps
 
 unfoldable pub sign_text : Sign → List ℕ
+sign_text sign.None = []
 sign_text sign.Minus = 45 ∷ []
 sign_text sign.Plus = 43 ∷ []
-sign_text _ = []
+sign_text sign.Unknown = 43 ∷ []
 
 -- Zeros, a number in decimal, a copied run of the source.
 unfoldable pub part_text : List ℕ → Part → List ℕ
 part_text src (Zero n) = replicate n 48
 part_text src (Num v) = decimal v
 part_text src (Copy start len) = take len (drop start src)
-part_text src part.Unknown = []
+part_text src (part.Unknown start len) = take len (drop start src)
 
 unfoldable pub parts_text : List ℕ → List Part → List ℕ
 parts_text src [] = []
@@ -56,6 +57,7 @@ text_of sign src ps = sign_text sign ++ parts_text src ps
 -- A copied run leaves a source of n bytes exactly when the true sum of start and length exceeds n.
 unfoldable pub leaves_source : ℕ → Part → Bool
 leaves_source n (Copy start len) = ltb n (start + len)
+leaves_source n (part.Unknown start len) = ltb n (start + len)
 leaves_source n _ = false
 
 -- No part leaves its source.
@@ -68,7 +70,7 @@ unfoldable pub part_length : Part → ℕ
 part_length (Zero n) = n
 part_length (Num v) = length (decimal v)
 part_length (Copy start len) = len
-part_length part.Unknown = 0
+part_length (part.Unknown start len) = len
 
 unfoldable pub parts_length : List Part → ℕ
 parts_length [] = 0

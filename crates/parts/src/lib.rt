@@ -8,7 +8,7 @@ ghost use Rattle.digits.specs.Text.{decimal};
 ghost use Rattle.parts.specs.Parts.{sign_of, sign_text, part_of, part_text, leaves_source, part_length, zero_part, num_part, copy_part};
 
 // Unknown is a case and no None: a list with such a code is a list, which is refused as OPTIONS in its order (part_answers: checked).
-// A sign: none, a minus or a plus; or that the code given for it is no sign's.
+// A sign: none, a minus or a plus; or that the code given for it is no sign's, which is refused: its text is that of a plus.
 #[derive(Clone, Copy, Debug, PartialEq, Eq)]
 pub enum Sign {
     None,
@@ -37,8 +37,8 @@ impl Sign {
         ensures { result ≡ length (sign_text self) }
     {
         match self {
-            Sign::Minus | Sign::Plus => 1,
-            Sign::None | Sign::Unknown => 0,
+            Sign::None => 0,
+            Sign::Minus | Sign::Plus | Sign::Unknown => 1,
         }
     }
 
@@ -50,9 +50,9 @@ impl Sign {
         ensures { (result ≡ end - length (sign_text self)) × (out.new ≡ ended out.old end (sign_text self)) }
     {
         let byte = match self {
+            Sign::None => return end,
             Sign::Minus => b'-',
-            Sign::Plus => b'+',
-            Sign::None | Sign::Unknown => return end,
+            Sign::Plus | Sign::Unknown => b'+',
         };
         let at = end - 1;
         out[at] = byte;
@@ -60,13 +60,14 @@ impl Sign {
     }
 }
 
-// So many zeros, a number, or the run of len bytes of the source from start on; or that the code given for its kind is no part's.
+// So many zeros, a number, or the run of len bytes of the source from start on; or that the code given for its kind is no part's,
+// which is refused: its text is that of the run.
 #[derive(Clone, Copy, Debug, PartialEq, Eq)]
 pub enum Part {
     Zero(u64),
     Num(u16),
     Copy { start: u64, len: u64 },
-    Unknown,
+    Unknown { start: u64, len: u64 },
 }
 
 impl Part {
@@ -89,7 +90,7 @@ impl Part {
         Part::Copy { start, len }
     }
 
-    // The part of a kind's code and what each kind takes of the rest: 0, the zeros; 1, the number; 2, start and len.
+    // The part of a kind's code and what each kind takes of the rest: 0, the zeros; 1, the number; 2 and any other code, start and len.
     pub fn of_kind(kind: u32, number: u16, zeros: u64, start: u64, len: u64) -> Self
         ensures { result ≡ part_of kind number zeros start len }
     {
@@ -97,7 +98,7 @@ impl Part {
             0 => Part::zero(zeros),
             1 => Part::num(number),
             2 => Part::copy(start, len),
-            _ => Part::Unknown,
+            _ => Part::Unknown { start, len },
         }
     }
 
@@ -109,8 +110,7 @@ impl Part {
         match self {
             Part::Zero(zeros) => zeros,
             Part::Num(number) => digits::digit_count(number as u64) as u64,
-            Part::Copy { len, .. } => len,
-            Part::Unknown => 0,
+            Part::Copy { len, .. } | Part::Unknown { len, .. } => len,
         }
     }
 
@@ -119,7 +119,7 @@ impl Part {
     pub fn leaves(self, source: usize) -> bool
         ensures { result ≡ leaves_source source self }
     {
-        let Part::Copy { start: from, len } = self else {
+        let (Part::Copy { start: from, len } | Part::Unknown { start: from, len }) = self else {
             return false;
         };
         match from.checked_add(len) {
@@ -141,12 +141,11 @@ impl Part {
                 end - count
             }
             Part::Num(number) => write_number(number, out, end),
-            Part::Copy { start: from, len } => {
+            Part::Copy { start: from, len } | Part::Unknown { start: from, len } => {
                 let count = len as usize;
                 buffer::copy(src, from as usize, count, out, end);
                 end - count
             }
-            Part::Unknown => end,
         }
     }
 }
