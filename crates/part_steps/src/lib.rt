@@ -26,7 +26,7 @@ pub fn scan_step(
 ) -> Result<u64, Refusal>
     ensures { (sign : Sign) (ps : List Part) → i ≡ length ps → past ≡ measured source sign ps → result ≡ measured source sign (ps ++ (part ∷ [])) }
 {
-    if part == Part::Unknown {
+    if let Part::Unknown { .. } = part {
         return Err(Refusal::Options);
     }
     let sum = past?;

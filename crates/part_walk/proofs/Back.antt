@@ -43,9 +43,12 @@ module _ {sign : Sign} {src out : List ℕ} {end : ℕ} {xs ls : List Part} {at 
     pub here-room : (leaves_source (length src) p ≡ false) × (part_length p ≤ at) × (at ≤ length zs)
     here-room = (stays.1, rest-room sign src xs ps p open_turn.rest stays.1, t.rest.within)
 
-    -- what is left once the part is written
+    -- what is left once the part is written, and so the turn after t
+    pub rest-next : {r : ℕ} {zs' : List ℕ} → (r ≡ at - part_length p) × (zs' ≡ ended zs at (part_text src p)) → Rest sign src out end xs ps r zs'
+    rest-next w = rest-step sign src xs ps p open_turn.rest stays.1 w.0 w.1
+
     pub next : {r : ℕ} {zs' : List ℕ} → (r ≡ at - part_length p) × (zs' ≡ ended zs at (part_text src p)) → Turn sign src out end xs ps r zs'
-    next w = record { inside = stays.0; rest = rest-step sign src xs ps p open_turn.rest stays.1 w.0 w.1 }
+    next w = record { inside = stays.0; rest = rest-next w }
 
   module _ (e : length ls ≡ 0) where
     none_left : Rest sign src out end xs [] at zs

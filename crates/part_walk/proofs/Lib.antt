@@ -1,2 +1,3 @@
--- What write_before keeps from turn to turn.
+-- The laws of a turn of the loop, and of a buffer that is lent on.
+pub mod Lent
 mod Back

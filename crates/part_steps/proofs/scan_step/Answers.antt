@@ -10,8 +10,8 @@ use Rattle.part_answers.specs.declared.Refusal.TheVariants as refusal
 use Rattle.part_answers.proofs.Answers.{more-unknown, more-refused, more-leaves, more-done}
 use Rattle.part_steps.proofs.scan_step.Goals as goal
 
-pub returns-then-eq : goal.returns-then-eq
-returns-then-eq c sign ps n e = let h : known_part c.args.part ≡ false = search rules in sym (more-unknown _ sign ps _ h)
+pub returns-in-Unknown : goal.returns-in-Unknown
+returns-in-Unknown c sign ps n e = let h : known_part c.args.part ≡ false = search rules in sym (more-unknown _ sign ps _ h)
 
 pub returns-in_err-sum : goal.returns-in_err-sum
 returns-in_err-sum c sign ps n e =

@@ -1,0 +1,2 @@
+-- What the number 0 says of an answer.
+mod Judged

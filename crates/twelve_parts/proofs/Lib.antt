@@ -1,0 +1,2 @@
+-- Laws of twelve parts in memory, for walks by hand.
+mod Twelve
