@@ -192,9 +192,15 @@ is-done (Err refusal.Options) e = absurd (omega arith)
 is-done (Err (refusal.Part i)) e = absurd (omega arith)
 is-done (Err (refusal.NoRoom n)) e = absurd (omega arith)
 
+is-left : (w : Answer) (t b : List ℕ) → (number_of w ≡ 0 → ⊥) → after w t b ≡ b
+is-left (Ok n) t b h = absurd (h refl)
+is-left (Err refusal.Options) t b h = refl
+is-left (Err (refusal.Part i)) t b h = refl
+is-left (Err (refusal.NoRoom n)) t b h = refl
+
 -- after every refusal it is kept by leaving the buffer alone
 pub left_alone : (sign : Sign) (ps : List Part) (src out : List ℕ) {w : Answer} (r : Refusal) → w ≡ wrote (length src) (length out) sign ps → w ≡ Err r → Writes sign ps src out w out
-left_alone sign ps src out r a e = record { answers = a; leaves = rw e }
+left_alone sign ps src out {w} r a e = record { answers = a; leaves = sym (is-left w (text_of sign src ps) out (λ z. let d = is-done w z in absurd (cc))) }
 
 -- where every check has passed and the text has been written before its own length, the promise is kept
 pub writes-done : (sign : Sign) (k : ℕ) (ps : List Part) (src out : List ℕ) {r : Answer} {out' : List ℕ} → r ≡ wrote (length src) (length out) sign ps → r ≡ Ok k → out' ≡ ended out k (text_of sign src ps) → Writes sign ps src out r out'
