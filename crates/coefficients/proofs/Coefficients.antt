@@ -21,13 +21,17 @@ use Rattle.digit_runs.specs.Runs.{Digits, Front, Held}
 use Rattle.coefficients.specs.Coefficients.{FractionOf, IsCoefficient}
 use Rattle.digit_runs.specs.declared.Run.{Run}
 use Rattle.whole_texts.proofs.Texts.{sized}
-use Rattle.digit_runs.proofs.Runs.{figure, figures}
+use Rattle.digit_runs.proofs.Runs.{figure, figures, IsHex, no_digit}
 use Rattle.coefficients.proofs.Places.{digits-length, no-figure, misses, ends_at}
 
 -- the lead digit is read first
 lead-value : (d : ℕ) (ds : List ℕ) → value_from 10 d ds ≡ value 10 (d ∷ ds)
 unfolding value value_from
 lead-value d ds = ap (λ (x : ℕ). value_from 10 x ds) (omega arith)
+
+-- a byte whose hex digit is 10 or more is no figure
+pub no-digit-10 : {byte r : ℕ} → IsHex 97 byte r → 10 ≤ r → Figure byte → ⊥
+no-digit-10 I h g = no_digit I h (omega arith) g.0 g.1 (figure g.0 g.1 ∙ g.2)
 
 pub fraction-from : {t : List ℕ} {at lead : ℕ} {r : Run} → FractionOf t at lead r → at ≤ r.end
 fraction-from (inl N) = omega (arith, ap (λ (x : Run). x.end) N.is)

@@ -1,6 +1,6 @@
 -- Digits and runs of digits: how the code comes by them, a byte at a time.
 -- Assumes nothing.
-use Rattle.std.proofs.Common.{◌≡◌, ℕ, ◌+◌, ◌-◌, ◌*◌, ◌%◌, ◌^◌, ◌<◌, ◌≤◌, Bool, true, false, Option, Some, None, SomeIff, ltb, List, [], ◌∷◌, ◌++◌, map, length, get_or, drop, sym, refl, ap, ◌∙◌, true≢false, append_assoc, le_trans, le-add_right, mod-eq_of_lt, div-add-mod', le-mul_of_pos_right, add-one, arith, subst, drop-cons, ltb-false, ltb-true, lt-ltb}
+use Rattle.std.proofs.Common.{◌≡◌, ℕ, ◌+◌, ◌-◌, ◌*◌, ◌/◌, ◌%◌, ◌^◌, ◌<◌, ◌≤◌, Bool, true, false, Option, Some, None, SomeIff, ltb, List, [], ◌∷◌, ◌++◌, map, length, get_or, drop, sym, refl, ap, ◌∙◌, true≢false, append_assoc, le_trans, le-add_right, mul-le-mul_right, mod-lt, mod-eq_of_lt, div-add-mod', le-mul_of_pos_right, add-one, arith, subst, drop-cons, ltb-false, ltb-true, lt-ltb}
 use mathlib.Core.Bool.{false≢true}
 use mathlib.Core.List.{map-append}
 use Rattle.digits.specs.Digits.{value_from, Below}
@@ -44,8 +44,12 @@ pub is_digit : {letter byte r b : ℕ} (s : Option ℕ) → IsHex letter byte r 
 is_digit (Some d) I h few e = rw e.1 (e.0, I.is h)
 is_digit {b = b} None I h few e = λ d l g. e (subst (λ (n : ℕ). n < b) (sym (I.only d (omega arith) g)) l)
 
+-- and none of the base otherwise, nor is a byte that is no hex digit
+pub no_digit : {letter byte r b : ℕ} → IsHex letter byte r → b ≤ r → b ≤ 16 → IsDigit (digit_byte letter) b byte None
+no_digit I h few = λ d l g. let e = I.only d (omega arith) g in omega arith
+
 pub not-digit : {letter byte r b : ℕ} → IsHex letter byte r → 16 ≤ r → b ≤ 16 → IsDigit (digit_byte letter) b byte None
-not-digit I h few = λ d l g. let e = I.only d (omega arith) g in omega arith
+not-digit I h few = no_digit I (omega arith) few
 
 -- a byte less another, wrapped: a small difference is the true one
 pub less : (x a byte : ℕ) → x + a < 256 → (x + a) % 2 ^ 8 ≡ byte → x + a ≡ byte
@@ -140,6 +144,19 @@ module _ (α : ℕ → ℕ) (b before : ℕ) (t : List ℕ) (from i v r : ℕ) (
             let e = value_from-append b big before D.0.digits R.run.digits in
             omega (arith, o, value_from-le b (v * b + r) R.run.digits big, rw (e, ← D.1) at h);
       }
+
+-- ---- 64 bits, in a base b
+
+module _ (b v d : ℕ) (pos : 0 < b) {top : ℕ} (is : top ≡ (2 ^ 64 - 1) / b) where
+  most : (2 ^ 64 - 1) / b * b + (2 ^ 64 - 1) % b ≡ 2 ^ 64 - 1
+  most = div-add-mod' (2 ^ 64 - 1) b
+
+  -- a number above the greatest over b has no room for a digit more
+  pub over-top : top < v → 2 ^ 64 ≤ v * b + d
+  over-top h = omega (arith, most, mod-lt (2 ^ 64 - 1) pos, mul-le-mul_right b (rw is at h))
+
+  pub below_top : v ≤ top → v * b ≤ 2 ^ 64 - 1
+  below_top h = omega (arith, most, mul-le-mul_right b (rw is at h))
 
 -- ---- a minus in front
 

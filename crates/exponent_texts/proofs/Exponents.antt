@@ -53,9 +53,12 @@ not-told f = record { yes = λ e. absurd (false≢true e); no = λ e. f }
 pub product-zero : (n k : ℕ) → n ≡ 0 → Held (Some 0) (n * 10 ^ k)
 product-zero n k e = let z : 0 ≡ n * 10 ^ k = sym (ap (λ (x : ℕ). x * 10 ^ k) e ∙ zero-mul (10 ^ k)) in (omega arith, z)
 
--- 10 ^ 20 is over 64 bits
-large : (n k : ℕ) → 0 < n → 19 < k → 2 ^ 64 ≤ n * 10 ^ k
-large n k p h = le_trans (le_trans (lit≤ tt) (T.powers {i = 20} {j = k} h)) (let q = mul-le-mul {n₁ = 1} {m₁ = 10 ^ k} {n₂ = n} {m₂ = 10 ^ k} p (omega arith) in omega arith)
+pub product-held : (n k v : ℕ) → v < 2 ^ 64 → v ≡ n * 10 ^ k → Held (Some v) (n * 10 ^ k)
+product-held n k v f e = (omega (arith, f, e), e)
 
-pub product-over : (n k : ℕ) → 0 < n → 19 < k → Held None (n * 10 ^ k)
-product-over n k p h = λ f. omega (arith, large n k p h)
+pub product-over : (n k : ℕ) → 2 ^ 64 ≤ n * 10 ^ k → Held None (n * 10 ^ k)
+product-over n k h = λ f. omega (arith, f, h)
+
+-- 10 ^ 20 is over 64 bits
+pub large : (n k : ℕ) → 0 < n → 19 < k → 2 ^ 64 ≤ n * 10 ^ k
+large n k p h = le_trans (le_trans (lit≤ tt) (T.powers {i = 20} {j = k} h)) (let q = mul-le-mul {n₁ = 1} {m₁ = 10 ^ k} {n₂ = n} {m₂ = 10 ^ k} p (omega arith) in omega arith)

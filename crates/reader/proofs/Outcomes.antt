@@ -3,7 +3,7 @@
 use Rattle.std.specs.Prelude.{Ok, Err}
 use mathlib.Core.Bool.{Bool, true, false, false≢true}
 use mathlib.Core.List.{List, []}
-use mathlib.Core.Path.{◌≡◌, refl, sym, ap, ◌∙◌}
+use mathlib.Core.Path.{◌≡◌, refl, sym, ap, ◌∙◌, subst}
 use Prim.Native.Nat.{ℕ, ◌≤◌, ◌<◌}
 use native.Mathlib.Nat.{lt_of_le_of_lt}
 use native.Mathlib.Omega.{arith}
@@ -41,6 +41,10 @@ module _ (sgn : Bool) (bits code : ℕ) (t : List ℕ) where
   passed (Err (fault.Shape i)) k c s j = record { type = k; format = c; some = s; judges = j }
   passed (Err fault.NotCanonical) k c s j = record { type = k; format = c; some = s; judges = j }
   passed (Err fault.Range) k c s j = record { type = k; format = c; some = s; judges = j }
+
+-- the format by its code
+pub at_code : (sgn : Bool) (bits : ℕ) (t : List ℕ) (r : Outcome) (k code : ℕ) → code ≡ k → Judges (form sgn bits k) sgn bits t r → Judges (form sgn bits code) sgn bits t r
+at_code sgn bits t r k code e j = subst (λ (i : ℕ). Judges (form sgn bits i) sgn bits t r) (sym e) j
 
 -- the value of a hex text
 pub hex-held : (sgn : Bool) (bits : ℕ) (t : List ℕ) (letter : ℕ) {v x : ℕ} → known bits ≡ true → 0 < length t → IsNumber (wholes false (digit_byte letter) 16) t (record { negative = false; magnitude = v }) → Ok x ≡ pattern_outcome sgn bits v
