@@ -2,11 +2,9 @@
 #![tactic(auto)]
 
 ghost use Rattle.std.specs.Prelude.{◌≤◌, ◌<◌, length};
-ghost use Rattle.formats.specs.Formats.{letter_from};
 ghost use Rattle.coefficients.specs.Coefficients.{FractionOf, CoefficientOf};
 
 use digit_runs::{DECIMAL, Run, front, scan};
-use formats::Case;
 use outcomes::Fault;
 
 // What stands behind the lead digit: with a point the fraction's digits, read behind the lead; without one nothing.
@@ -36,10 +34,10 @@ pub struct Coefficient {
     pub value: Option<u64>,
 }
 
-// The front of an exponent text whose letter has this case, or the place from which on it is of another shape.
-pub fn find_coefficient(text: &[u8], signed: bool, case: Case) -> Result<Coefficient, Fault>
-    requires { 0 < length text.now }
-    ensures { CoefficientOf signed (letter_from case 101) text.now result }
+// The front of an exponent text with this letter, or the place from which on it is of another shape.
+pub fn find_coefficient(text: &[u8], signed: bool, letter: u8) -> Result<Coefficient, Fault>
+    requires { (0 < length text.now) × (57 < letter) }
+    ensures { CoefficientOf signed letter text.now result }
 {
     let start = front(text, signed);
     if text.len() <= start {
@@ -57,7 +55,7 @@ pub fn find_coefficient(text: &[u8], signed: bool, case: Case) -> Result<Coeffic
     if text.len() <= end {
         return Err(Fault::Shape(end));
     }
-    if text[end] == case.letter(b'e') {
+    if text[end] == letter {
         return Ok(Coefficient {
             minus: 0 < start,
             lead,

@@ -1,6 +1,6 @@
 -- A whole exponent text, from its front and its exponent: its place, its parts, the rules of writing, and its magnitude.
 -- Assumes nothing.
-use Rattle.std.specs.Prelude.{Some, None}
+use Rattle.std.specs.Prelude.{Option, None}
 use mathlib.Core.Bool.{Bool, true, false}
 use mathlib.Core.List.{List, [], ◌∷◌, ◌++◌, map, append_assoc, append-nil, map-append}
 use mathlib.Core.Path.{◌≡◌, refl, sym, ap, ap₂, ◌∙◌, subst}
@@ -20,7 +20,7 @@ use Rattle.reading.proofs.Exponent.{place_none, place-tail}
 use Rattle.coefficients.specs.Coefficients.{IsCoefficient}
 use Rattle.coefficients.specs.declared.Coefficient.{Coefficient}
 use Rattle.digit_runs.specs.Runs.{Held}
-use Rattle.outcomes.specs.Found.{IsNumber, IsBeyond}
+use Rattle.outcomes.specs.Found.{IsFound}
 use Rattle.exponent_texts.specs.Exponents.{AtMostTwo, Rules, exponents}
 use Rattle.exponent_texts.specs.declared.Short.{Short}
 use Rattle.whole_texts.proofs.Texts.{empty, first, value-lead}
@@ -191,28 +191,20 @@ module _ (sgn : Bool) (letter : ℕ) (l : 57 < letter) (t : List ℕ) (c : Coeff
     is : (v : ℕ) → v ≡ value 10 (c.lead ∷ fs) → v * 10 ^ (s.value - (c.size - 1)) ≡ magnitude parts
     is v e = ap₂ (λ (x y : ℕ). x * 10 ^ y) e zeros-are
 
-    pub found-wide : Rules t c.lead c.size c.end s.value → 2 ^ 64 ≤ value 10 (c.lead ∷ fs) → IsBeyond (exponents sgn letter) t
+    pub found-wide : Rules t c.lead c.size c.end s.value → 2 ^ 64 ≤ value 10 (c.lead ∷ fs) → IsFound (exponents sgn letter) t (record { negative = c.minus; magnitude = None })
     found-wide R h = record {
       parts = parts;
       reads = found-reads;
       canonical = rules-canonical R;
-      beyond = le_trans h (le-mul_of_pos_right (number parts).coef (T.pos ((number parts).expo - (number parts).frac)));
+      sign = refl;
+      held = λ f. omega (arith, f, le_trans h (le-mul_of_pos_right (number parts).coef (T.pos ((number parts).expo - (number parts).frac))));
     }
 
-    module _ (v : ℕ) (e : v ≡ value 10 (c.lead ∷ fs)) (R : Rules t c.lead c.size c.end s.value) where
-      pub found-over : Held None (v * 10 ^ (s.value - (c.size - 1))) → IsBeyond (exponents sgn letter) t
-      found-over P = record {
-        parts = parts;
-        reads = found-reads;
-        canonical = rules-canonical R;
-        beyond = subst (λ (x : ℕ). 2 ^ 64 ≤ x) (is v e) (omega (arith, P));
-      }
-
-      pub found-held : (n : ℕ) → Held (Some n) (v * 10 ^ (s.value - (c.size - 1))) → IsNumber (exponents sgn letter) t (record { negative = c.minus; magnitude = n })
-      found-held n P = record {
-        parts = parts;
-        reads = found-reads;
-        canonical = rules-canonical R;
-        sign = refl;
-        held = P.1 ∙ is v e;
-      }
+    pub found-held : {r : Option ℕ} (v : ℕ) → v ≡ value 10 (c.lead ∷ fs) → Rules t c.lead c.size c.end s.value → Held r (v * 10 ^ (s.value - (c.size - 1))) → IsFound (exponents sgn letter) t (record { negative = c.minus; magnitude = r })
+    found-held {r} v e R P = record {
+      parts = parts;
+      reads = found-reads;
+      canonical = rules-canonical R;
+      sign = refl;
+      held = subst (Held r) (is v e) P;
+    }

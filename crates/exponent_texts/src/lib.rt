@@ -10,8 +10,7 @@ ghost use Rattle.outcomes.specs.Found.{Found};
 use coefficients::{Coefficient, find_coefficient};
 use digit_runs::DECIMAL;
 use formats::Case;
-use kinds::Split;
-use outcomes::Fault;
+use outcomes::{Fault, WideSplit};
 
 // The digit at a place, if one stands there.
 fn digit_at(text: &[u8], at: usize) -> Option<u64>
@@ -108,12 +107,12 @@ fn times_power(n: u64, k: u64) -> Option<u64>
     n.checked_mul(p)
 }
 
-// The number that an exponent text stands for; or it is of another shape from a place on, not canonical, or over 64 bits.
-pub fn find_exponent(text: &[u8], signed: bool, case: Case) -> Result<Split, Fault>
+// The number that an exponent text stands for, by its sign, and its magnitude unless it is over 64 bits; or it is of another shape from a place on, or not canonical.
+pub fn find_exponent(text: &[u8], signed: bool, case: Case) -> Result<WideSplit, Fault>
     requires { 0 < length text.now }
     ensures { Found (exponents signed (letter_from case 101)) text.now result }
 {
-    let coefficient = find_coefficient(text, signed, case)?;
+    let coefficient = find_coefficient(text, signed, case.letter(b'e'))?;
     let start = coefficient.end + 1;
     let expo = exponent_digits(text, start);
     let last = expo.end;
@@ -126,14 +125,14 @@ pub fn find_exponent(text: &[u8], signed: bool, case: Case) -> Result<Split, Fau
     let k = expo.value;
     if is_canonical(text, coefficient, k) {
         let Some(value) = coefficient.value else {
-            return Err(Fault::Range);
+            return Ok(WideSplit {
+                negative: coefficient.minus,
+                magnitude: None,
+            });
         };
-        let Some(magnitude) = times_power(value, zeros(k, coefficient.size)) else {
-            return Err(Fault::Range);
-        };
-        return Ok(Split {
+        return Ok(WideSplit {
             negative: coefficient.minus,
-            magnitude,
+            magnitude: times_power(value, zeros(k, coefficient.size)),
         });
     }
     Err(Fault::NotCanonical)

@@ -1,2 +1,3 @@
--- Laws of the answer for a value.
+-- Laws of the answer for a value, and of what a text is found to be.
 pub mod Ranges
+pub mod Found

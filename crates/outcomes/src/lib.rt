@@ -4,6 +4,7 @@
 ghost use Rattle.std.specs.Prelude.{◌≡◌, true, ◌≤◌, ◌<◌};
 ghost use Rattle.reading.specs.Formats.{whole};
 ghost use Rattle.outcomes.specs.Outcomes.{fault_number, fault_value, number_of, value_of, value_outcome, pattern_outcome};
+ghost use Rattle.outcomes.specs.Found.{SplitOf};
 
 use kinds::{Kind, Split};
 
@@ -63,6 +64,28 @@ pub fn value(outcome: Outcome) -> u64
     match outcome {
         Ok(value) => value,
         Err(fault) => fault.value(),
+    }
+}
+
+// A number by its sign and its unsigned magnitude, which is None if it is over 64 bits.
+#[derive(Clone, Copy, Debug, PartialEq, Eq)]
+pub struct WideSplit {
+    pub negative: bool,
+    pub magnitude: Option<u64>,
+}
+
+impl WideSplit {
+    // The same with a magnitude of 64 bits. One over them is in no type.
+    pub fn split(self) -> Result<Split, Fault>
+        ensures { SplitOf self result }
+    {
+        let Some(magnitude) = self.magnitude else {
+            return Err(Fault::Range);
+        };
+        Ok(Split {
+            negative: self.negative,
+            magnitude,
+        })
     }
 }
 

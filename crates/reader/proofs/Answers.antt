@@ -26,7 +26,9 @@ use Rattle.reading.proofs.Faithful.{sign_of, nat_abs-lt, pattern_lt}
 use Rattle.reader.specs.Answers.{Judges}
 use Rattle.outcomes.specs.Outcomes.{Outcome, value_outcome, pattern_outcome}
 use Rattle.kinds.specs.declared.Split.{Split}
-use Rattle.outcomes.specs.Found.{Numbered, IsNumber, IsBeyond, Found}
+use Rattle.outcomes.specs.declared.WideSplit.{WideSplit}
+use Rattle.outcomes.specs.Found.{Numbered, IsNumber, IsBeyond, IsFound, Found, SplitOf}
+use Rattle.outcomes.proofs.Found.{held-number, over-beyond}
 use Rattle.outcomes.specs.declared.Fault.{Fault}
 use Rattle.outcomes.specs.declared.Fault.TheVariants as fault
 use Rattle.scientific.specs.Shape.{Parts}
@@ -60,13 +62,13 @@ module _ (sgn : Bool) (bits : ℕ) (t : List ℕ) (one : 1 ≤ bits) where
     F = record { shape = N.shape; Canonical = N.Canonical; Stands = Stands }
 
     -- no number was found
-    pub refused : (IsBeyond N t → Judges F sgn bits t (Err fault.Range)) → (e : Fault) → Found N t (Err e) → Judges F sgn bits t (Err e)
-    refused over (fault.Shape k) p = p
-    refused over fault.NotCanonical p = record { parts = p.0; reads = p.1; broken = p.2 }
-    refused over fault.Range p = over p
-    refused over fault.Empty p = absurd p
-    refused over fault.Type p = absurd p
-    refused over fault.Options p = absurd p
+    pub refused : (e : Fault) → Found N t (Err e) → Judges F sgn bits t (Err e)
+    refused (fault.Shape k) p = p
+    refused fault.NotCanonical p = record { parts = p.0; reads = p.1; broken = p.2 }
+    refused fault.Range p = absurd p
+    refused fault.Empty p = absurd p
+    refused fault.Type p = absurd p
+    refused fault.Options p = absurd p
 
   -- ---- a magnitude behind a minus or none
 
@@ -97,6 +99,36 @@ module _ (sgn : Bool) (bits : ℕ) (t : List ℕ) (one : 1 ≤ bits) where
         go : (k : Bool) → is_in_type sgn bits z ≡ k → r ≡ cond k (Ok (pattern 64 z)) (Err fault.Range) → Judges form sgn bits t r
         go true p e = rw e (record { parts = P.parts; reads = P.reads; canonical = P.canonical; number = z; inside = p; stands = C.stands P.parts P.canonical; pattern = refl })
         go false p e = rw e (record { parts = P.parts; reads = P.reads; canonical = P.canonical; outside = λ y q S. true≢false (sym q ∙ ap (is_in_type sgn bits) (C.only P.parts P.canonical y S) ∙ p) })
+
+  -- ---- decimal, as it was found
+
+  module _ (few : bits ≤ 64) {n : WideSplit} (W : IsFound (wholes sgn lower 10) t n) where
+    pub minus-signed : n.negative ≡ true → sgn ≡ true
+    minus-signed e = (decimals sgn).signed W.parts W.reads (W.sign ∙ e)
+
+    pub minus-some : {s : Split} → SplitOf n (Ok s) → s.negative ≡ true → 0 < s.magnitude
+    minus-some p = some few (decimals sgn) (held-number W p)
+
+    pub decimal-over : {e : Fault} → SplitOf n (Err e) → Judges (decimal_form sgn) sgn bits t (Err e)
+    decimal-over p = rw p.1 (over few (decimals sgn) (over-beyond W p))
+
+    pub decimal-held : {s : Split} {r : Outcome} → SplitOf n (Ok s) → r ≡ value_outcome sgn bits (whole s.negative s.magnitude) → Judges (decimal_form sgn) sgn bits t r
+    decimal-held p e = held few (decimals sgn) (held-number W p) e
+
+  -- ---- exponent form
+
+  module _ (few : bits ≤ 64) (letter : ℕ) {n : WideSplit} (W : IsFound (exponents sgn letter) t n) where
+    pub exponent-signed : n.negative ≡ true → sgn ≡ true
+    exponent-signed e = (scientific sgn letter).signed W.parts W.reads (W.sign ∙ e)
+
+    pub exponent-some : {s : Split} → SplitOf n (Ok s) → s.negative ≡ true → 0 < s.magnitude
+    exponent-some p = some few (scientific sgn letter) (held-number W p)
+
+    pub exponent-over : {e : Fault} → SplitOf n (Err e) → Judges (exponent_form sgn letter) sgn bits t (Err e)
+    exponent-over p = rw p.1 (over few (scientific sgn letter) (over-beyond W p))
+
+    pub exponent-held : {s : Split} {r : Outcome} → SplitOf n (Ok s) → r ≡ value_outcome sgn bits (whole s.negative s.magnitude) → Judges (exponent_form sgn letter) sgn bits t r
+    exponent-held p e = held few (scientific sgn letter) (held-number W p) e
 
   -- ---- the pattern of the type's bits
 

@@ -23,7 +23,7 @@ fn read_decimal(target: WordKind, text: &[u8]) -> Outcome
     requires { 0 < length text.now }
     ensures { Judges (decimal_form target.kind.signed) target.kind.signed target.kind.bits text.now result }
 {
-    let found = find_whole(text, target.kind.signed, DECIMAL)?;
+    let found = find_whole(text, target.kind.signed, DECIMAL)?.split()?;
     of_magnitude(target, found)
 }
 
@@ -32,7 +32,7 @@ fn read_radix(target: WordKind, numerals: Numerals, text: &[u8]) -> Outcome
     requires { 0 < length text.now }
     ensures { Judges (radix_form (digit_byte numerals.letter) numerals.base target.kind.bits) target.kind.signed target.kind.bits text.now result }
 {
-    let found = find_whole(text, false, numerals)?;
+    let found = find_whole(text, false, numerals)?.split()?;
     of_pattern(target, found.magnitude)
 }
 
@@ -52,7 +52,7 @@ fn read_exponent(target: WordKind, case: Case, text: &[u8]) -> Outcome
     requires { 0 < length text.now }
     ensures { Judges (exponent_form target.kind.signed (letter_from case 101)) target.kind.signed target.kind.bits text.now result }
 {
-    let found = find_exponent(text, target.kind.signed, case)?;
+    let found = find_exponent(text, target.kind.signed, case)?.split()?;
     of_magnitude(target, found)
 }
 

@@ -1,9 +1,10 @@
 -- What a text of digits is found to be, from a minus or none in front and the run of digits behind it. Over the alphabet and the base.
 -- Assumes nothing.
+use Rattle.std.specs.Prelude.{Option}
 use mathlib.Core.Bool.{Bool, true, false}
 use mathlib.Core.List.{List, [], ◌∷◌, ◌++◌, map, append_assoc, append-nil}
 use mathlib.Core.Path.{◌≡◌, refl, sym, ap, ◌∙◌, subst}
-use Prim.Native.Nat.{ℕ, zero, suc, ◌+◌, ◌-◌, ◌*◌, ◌^◌, ◌≤◌, ◌<◌}
+use Prim.Native.Nat.{ℕ, zero, suc, ◌+◌, ◌-◌, ◌*◌, ◌≤◌, ◌<◌}
 use native.Mathlib.Nat.{add-zero, zero-mul, zero-add}
 use native.Mathlib.Omega.{arith}
 use lib.Dec.{ltb}
@@ -14,8 +15,8 @@ use Rattle.scientific.specs.Shape.{sign}
 use Rattle.reading.specs.Form.{Reads, Place}
 use Rattle.reading.specs.Whole.{Whole, CanonicalWhole, whole_shape}
 use Rattle.reading.proofs.Whole.{Alphabet, place-stop, place_none}
-use Rattle.digit_runs.specs.Runs.{DigitRun, Front}
-use Rattle.outcomes.specs.Found.{IsNumber, IsBeyond}
+use Rattle.digit_runs.specs.Runs.{DigitRun, Front, Held}
+use Rattle.outcomes.specs.Found.{IsNumber, IsFound}
 use Rattle.whole_texts.specs.Wholes.{wholes}
 use Rattle.digit_runs.proofs.Runs.{value_from-le}
 
@@ -138,10 +139,10 @@ module _ (α : ℕ → ℕ) (b : ℕ) (A : Alphabet α b) (figure : α 0 ≡ 48)
             omega arith
         minus o v (suc d ∷ l) e = let g = value-lead b d l A.big in let w : value b (suc d ∷ l) ≡ 0 = ap (value b) (sym e) ∙ v in omega arith
 
+    pub found-whole : {r : Option ℕ} → (get_or t s 0 ≡ 48 → end ≤ 1) → Held r (value_from b 0 ds) → IsFound (wholes may α b) t (record { negative = ltb 0 s; magnitude = r })
+    unfolding value
+    found-whole f held = record { parts = parts; reads = found-reads; canonical = found-canonical f; sign = sym (ap (ltb 0) F.size ∙ sized m); held = held }
+
     pub found_number : (v : ℕ) → (get_or t s 0 ≡ 48 → end ≤ 1) → v ≡ value_from b 0 ds → IsNumber (wholes may α b) t (record { negative = ltb 0 s; magnitude = v })
     unfolding value
     found_number v f held = record { parts = parts; reads = found-reads; canonical = found-canonical f; sign = sym (ap (ltb 0) F.size ∙ sized m); held = held }
-
-    pub found-beyond : (get_or t s 0 ≡ 48 → end ≤ 1) → 2 ^ 64 ≤ value_from b 0 ds → IsBeyond (wholes may α b) t
-    unfolding value
-    found-beyond f beyond = record { parts = parts; reads = found-reads; canonical = found-canonical f; beyond = beyond }

@@ -10,12 +10,12 @@ ghost use Rattle.whole_texts.specs.Wholes.{wholes};
 use digit_runs::{Numerals, front, scan};
 use formats::Case;
 use kinds::Split;
-use outcomes::Fault;
+use outcomes::{Fault, WideSplit};
 use sixteen_digits::Letter;
 
 // That a text is not empty `read` has found once for all below it: a slice with that fact as a type would be no slice any more.
-// The number that a text of digits stands for; or it is of another shape from a place on, not canonical, or over 64 bits.
-pub fn find_whole(text: &[u8], may: bool, numerals: Numerals) -> Result<Split, Fault>
+// The number that a text of digits stands for, by its sign, and its magnitude unless it is over 64 bits; or it is of another shape from a place on, or not canonical.
+pub fn find_whole(text: &[u8], may: bool, numerals: Numerals) -> Result<WideSplit, Fault>
     requires { 0 < length text.now }
     ensures { Found (wholes may (digit_byte numerals.letter) numerals.base) text.now result }
 {
@@ -33,12 +33,9 @@ pub fn find_whole(text: &[u8], may: bool, numerals: Numerals) -> Result<Split, F
             return Err(Fault::NotCanonical);
         }
     }
-    let Some(magnitude) = run.value else {
-        return Err(Fault::Range);
-    };
-    Ok(Split {
+    Ok(WideSplit {
         negative: 0 < start,
-        magnitude,
+        magnitude: run.value,
     })
 }
 

@@ -1,10 +1,9 @@
 -- `whole_texts::find_whole` meets its contract. Assumes nothing.
 use mathlib.Core.Path.{refl}
-use native.Mathlib.Omega.{arith}
 use borrow.Author.Rules.{rules}
 use Rattle.reading.proofs.Faithful.{letters-alphabet}
 use Rattle.digit_runs.proofs.Runs.{front-inside}
-use Rattle.whole_texts.proofs.Texts.{found-stop, found_none, found-reads, found-broken, found_number, found-beyond}
+use Rattle.whole_texts.proofs.Texts.{found-stop, found_none, found-reads, found-broken, found-whole}
 use Rattle.whole_texts.proofs.find_whole.Goals as goal
 
 pub scan-run-requires : goal.scan-run-requires
@@ -23,12 +22,7 @@ returns-then-end-gt1 c = (
   found-broken _ _ (letters-alphabet _ _ c.args.numerals.apart.0 c.args.numerals.few.0) refl _ _ _ _ c.front-start.ensures c.scan-run.ensures.stops c.if-end-text.false c.if-end-start.false c.if-text-start-eq48.true c.if-end-gt1.true,
 )
 
-pub returns-in_default : goal.returns-in_default
-returns-in_default c =
-    found-beyond _ _ (letters-alphabet _ _ c.args.numerals.apart.0 c.args.numerals.few.0) refl _ _ _ _ c.front-start.ensures c.scan-run.ensures.stops c.if-end-text.false c.if-end-start.false
-    (λ z. search rules) (omega (arith, rw c.in_default.is at c.scan-run.ensures.number))
-
 pub returns : goal.returns
 returns c =
-    found_number _ _ (letters-alphabet _ _ c.args.numerals.apart.0 c.args.numerals.few.0) refl _ _ _ _ c.front-start.ensures c.scan-run.ensures.stops c.if-end-text.false c.if-end-start.false _
-    (λ z. search rules) (rw c.in-Some.is at c.scan-run.ensures.number).1
+    found-whole _ _ (letters-alphabet _ _ c.args.numerals.apart.0 c.args.numerals.few.0) refl _ _ _ _ c.front-start.ensures c.scan-run.ensures.stops c.if-end-text.false c.if-end-start.false
+    (λ z. search rules) c.scan-run.ensures.number
