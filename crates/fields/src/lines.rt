@@ -14,6 +14,7 @@ pub fn space() -> [u8; 1_048_576]
 }
 
 // Plays each line in turn: what `answer` writes of it, and a newline. The last line may be without one.
+#[inline(always)]
 pub fn play<'a, I, W, F>(lines: I, out: &mut W, mut answer: F) -> io::Result<()>
 where
     I: Iterator<Item = &'a [u8]> + Drop,
@@ -31,13 +32,20 @@ where
 }
 
 // Where the byte stands first.
+#[inline(always)]
 fn place(text: &[u8], byte: u8) -> Option<usize>
     ensures { result ≡ position (λ each. each == byte) text.now }
 {
-    text.iter().position(|each| *each == byte)
+    for at in 0..text.len() {
+        if text[at] == byte {
+            return Some(at);
+        }
+    }
+    None
 }
 
 // What stands in front of the first such byte, and what stands behind it.
+#[inline(always)]
 pub fn split_once(text: &[u8], byte: u8) -> Option<(&[u8], &[u8])>
     ensures { MatchOption result (IsWhole byte text.now)
         (λ parts. IsCut byte text.now parts.0.now parts.1.now) }
@@ -47,6 +55,7 @@ pub fn split_once(text: &[u8], byte: u8) -> Option<(&[u8], &[u8])>
 }
 
 // The row of a line. A label in front of it, `LABEL|ROW`, is written as `LABEL: `.
+#[inline(always)]
 pub fn past_label<'a, W: Write>(line: &'a [u8], out: &mut W) -> io::Result<&'a [u8]>
     ensures { IfOk result (λ row. IsRow line.now row.now (W.contents out.old) (W.contents out.new)) }
 {

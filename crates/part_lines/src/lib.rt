@@ -15,6 +15,7 @@ mod list;
 mod row;
 mod three;
 
+#[inline(always)]
 fn answer<W: Write>(line: &[u8], out: &mut W) -> std::io::Result<()> {
     match line {
         [b'p', _, row @ ..] => three::answer(row, out),

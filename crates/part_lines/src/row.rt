@@ -22,6 +22,7 @@ pub fn part(kind: u64, a: u64, b: u64) -> Part {
 }
 
 // `NUMBER VALUE` of an answer.
+#[inline(always)]
 fn told<W: Write>(answer: Result<u64, Refusal>, out: &mut W) -> io::Result<()> {
     answers::pair(
         out,
@@ -31,6 +32,7 @@ fn told<W: Write>(answer: Result<u64, Refusal>, out: &mut W) -> io::Result<()> {
 }
 
 // `NUMBER VALUE` of the length, and `NUMBER VALUE [BUFFER]` of what is written over a buffer of so many dots, 512 at most.
+#[inline(always)]
 pub fn both<W, F>(length: Result<u64, Refusal>, size: u64, out: &mut W, write: F) -> io::Result<()>
 where
     W: Write,

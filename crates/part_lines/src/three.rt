@@ -9,6 +9,7 @@ use std::io;
 use std::io::Write;
 
 // The length, and writing over a buffer of so many dots.
+#[inline(always)]
 pub fn answer<W: Write>(row: &[u8], out: &mut W) -> io::Result<()> {
     let Some(numbers) = exactly(row) else {
         return answers::unknown(out);

@@ -12,15 +12,18 @@
 //     # ..                  a heading, which is written as it is
 #![tactic(auto)]
 
-use fields::lines;
 use fields::output::Output;
+use fields::{answers, lines};
 use std::io::Write;
 
 mod plain;
 mod typed;
 
+#[inline(always)]
 fn answer<W: Write>(line: &[u8], out: &mut W) -> std::io::Result<()> {
     match line {
+        // No line says anything in so few.
+        [] | [_] => answers::unknown(out),
         [b'u', b' ', row @ ..] => plain::answer(row, false, out),
         [b'i', b' ', row @ ..] => plain::answer(row, true, out),
         [b't', b' ', row @ ..] => typed::answer(row, out),

@@ -42,6 +42,7 @@ fn write(call: Call, room: &mut [u8]) -> Written {
 }
 
 // The 13 numbers of a call with its room.
+#[inline(always)]
 pub fn answer<W: Write>(row: &[u8], out: &mut W) -> io::Result<()> {
     match Call::of(row) {
         Some((call, Some(size))) => write_lines::over(size, out, move |room| write(call, room)),

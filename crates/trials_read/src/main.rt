@@ -14,6 +14,7 @@ use outcomes::Outcome;
 use std::io::Write;
 
 // The text behind three numbers, read as they say: nothing where they are no three numbers.
+#[inline(always)]
 fn read(row: &[u8]) -> Option<Outcome> {
     let (bits, rest) = split_once(row, b' ')?;
     let (signed, rest) = split_once(rest, b' ')?;
@@ -25,6 +26,7 @@ fn read(row: &[u8]) -> Option<Outcome> {
     Some(reader::read(kind, held(number(format)?), text))
 }
 
+#[inline(always)]
 fn answer_row<W: Write>(row: &[u8], out: &mut W) -> std::io::Result<()> {
     match read(row) {
         Some(outcome) => answers::pair(
@@ -36,6 +38,7 @@ fn answer_row<W: Write>(row: &[u8], out: &mut W) -> std::io::Result<()> {
     }
 }
 
+#[inline(always)]
 fn answer<W: Write>(line: &[u8], out: &mut W) -> std::io::Result<()> {
     match line {
         [b'r', _, row @ ..] => answer_row(row, out),

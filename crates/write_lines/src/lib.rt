@@ -4,7 +4,7 @@
 
 use fields::answers;
 use fields::held::held;
-use fields::numbers::{exactly, numbers};
+use fields::numbers::{Numbers, exactly, numbers};
 use kinds::Kind;
 use std::io;
 use std::io::Write;
@@ -22,9 +22,10 @@ pub struct Call {
 
 impl Call {
     // The call of 12 or 13 numbers, and of 13 its room.
+    #[inline(always)]
     pub fn of(row: &[u8]) -> Option<(Call, Option<u64>)> {
-        let numbers = numbers(row)?;
-        let (call, rest) = numbers.split_first_chunk::<12>()?;
+        let mut space = Numbers::new();
+        let (call, rest) = numbers(row, &mut space)?.split_first_chunk::<12>()?;
         let room = match rest {
             [] => None,
             [room] => Some(*room),
@@ -83,6 +84,7 @@ fn write(call: Call, room: &mut [u8]) -> Written {
 }
 
 // `NUMBER VALUE`.
+#[inline(always)]
 fn told<W: Write>(written: Written, out: &mut W) -> io::Result<()> {
     answers::pair(
         out,
@@ -92,6 +94,7 @@ fn told<W: Write>(written: Written, out: &mut W) -> io::Result<()> {
 }
 
 // The text into room that suffices, or `! NUMBER VALUE` of a refusal.
+#[inline(always)]
 fn text<W: Write>(call: Call, out: &mut W) -> io::Result<()> {
     let mut space = [b'.'; 512];
     let written = write(call, &mut space);
@@ -104,6 +107,7 @@ fn text<W: Write>(call: Call, out: &mut W) -> io::Result<()> {
 }
 
 // What is written over a buffer of so many dots, 512 at most: `NUMBER VALUE [BUFFER]`.
+#[inline(always)]
 pub fn over<W, F>(size: u64, out: &mut W, write: F) -> io::Result<()>
 where
     W: Write,
@@ -118,6 +122,7 @@ where
 }
 
 // The lines of 12 and 13 numbers.
+#[inline(always)]
 pub fn answer<W: Write>(line: &[u8], out: &mut W) -> io::Result<()> {
     match Call::of(line) {
         Some((call, None)) => text(call, out),
@@ -127,6 +132,7 @@ pub fn answer<W: Write>(line: &[u8], out: &mut W) -> io::Result<()> {
 }
 
 // The short form: bits signed value format room.
+#[inline(always)]
 pub fn answer_short<W: Write>(row: &[u8], out: &mut W) -> io::Result<()> {
     let Some(numbers) = exactly(row) else {
         return answers::unknown(out);
