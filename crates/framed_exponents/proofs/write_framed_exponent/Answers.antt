@@ -33,7 +33,7 @@ pub size-requires : goal.size-requires
 size-requires c = let d = digits c in omega (arith, d.size, d.few)
 
 pub put_around-requires : goal.put_around-requires
-put_around-requires c = let d = digits (goal.at.put_around-requires c).In-Some in (c.requires, omega (arith, c.size.ensures, d.size, d.few))
+put_around-requires c = let d = digits (goal.at.put_around-requires c).In-Some in (omega arith, omega (arith, c.size.ensures, d.size, d.few))
 
 pub slice_bounds-write_before-end : goal.slice_bounds-write_before-end
 slice_bounds-write_before-end c = sym (digits (goal.at.slice_bounds-write_before-end c).In-Some).source
