@@ -208,3 +208,7 @@ module _ (sgn : Bool) (letter : ℕ) (l : 57 < letter) (t : List ℕ) (c : Coeff
       sign = refl;
       held = subst (Held r) (is v e) P;
     }
+
+    -- the number is over 64 bits
+    pub found-over : (v : ℕ) → v ≡ value 10 (c.lead ∷ fs) → Rules t c.lead c.size c.end s.value → Held None (v * 10 ^ (s.value - (c.size - 1))) → IsFound (exponents sgn letter) t (record { negative = c.minus; magnitude = None })
+    found-over v e R P = found-held {r = None} v e R P

@@ -46,9 +46,10 @@ pub fn number(field: &[u8]) -> Option<u64>
     }
 }
 
-// The numbers of a row, put into an empty space that is lent: `None` where a field of it is no number, or they are more than 40.
+// The numbers of a row, put into a space that is lent, for whatever stood there: `None` where a field of it is no number, or they are more than 40.
 #[inline(always)]
 pub fn numbers<'a>(row: &[u8], space: &'a mut Numbers) -> Option<&'a [u64]> {
+    space.clear();
     for field in row.split(|byte| *byte == b' ') {
         space.try_push(number(field)?).ok()?;
     }

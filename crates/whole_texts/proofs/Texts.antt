@@ -4,7 +4,7 @@ use Rattle.std.specs.Prelude.{Option}
 use mathlib.Core.Bool.{Bool, true, false}
 use mathlib.Core.List.{List, [], ◌∷◌, ◌++◌, map, append_assoc, append-nil}
 use mathlib.Core.Path.{◌≡◌, refl, sym, ap, ◌∙◌, subst}
-use Prim.Native.Nat.{ℕ, zero, suc, ◌+◌, ◌-◌, ◌*◌, ◌≤◌, ◌<◌}
+use Prim.Native.Nat.{ℕ, ◌^◌, zero, suc, ◌+◌, ◌-◌, ◌*◌, ◌≤◌, ◌<◌}
 use native.Mathlib.Nat.{add-zero, zero-mul, zero-add}
 use native.Mathlib.Omega.{arith}
 use lib.Dec.{ltb}
@@ -16,7 +16,7 @@ use Rattle.reading.specs.Form.{Reads, Place}
 use Rattle.reading.specs.Whole.{Whole, CanonicalWhole, whole_shape}
 use Rattle.reading.proofs.Whole.{Alphabet, place-stop, place_none}
 use Rattle.digit_runs.specs.Runs.{DigitRun, Front, Held}
-use Rattle.outcomes.specs.Found.{IsNumber, IsFound}
+use Rattle.outcomes.specs.Found.{IsNumber, IsFound, IsBeyond}
 use Rattle.whole_texts.specs.Wholes.{wholes}
 use Rattle.digit_runs.proofs.Runs.{value_from-le}
 
@@ -142,6 +142,10 @@ module _ (α : ℕ → ℕ) (b : ℕ) (A : Alphabet α b) (figure : α 0 ≡ 48)
     pub found-whole : {r : Option ℕ} → (get_or t s 0 ≡ 48 → end ≤ 1) → Held r (value_from b 0 ds) → IsFound (wholes may α b) t (record { negative = ltb 0 s; magnitude = r })
     unfolding value
     found-whole f held = record { parts = parts; reads = found-reads; canonical = found-canonical f; sign = sym (ap (ltb 0) F.size ∙ sized m); held = held }
+
+    pub found-beyond : (get_or t s 0 ≡ 48 → end ≤ 1) → 2 ^ 64 ≤ value_from b 0 ds → IsBeyond (wholes may α b) t
+    unfolding value
+    found-beyond f beyond = record { parts = parts; reads = found-reads; canonical = found-canonical f; beyond = beyond }
 
     pub found_number : (v : ℕ) → (get_or t s 0 ≡ 48 → end ≤ 1) → v ≡ value_from b 0 ds → IsNumber (wholes may α b) t (record { negative = ltb 0 s; magnitude = v })
     unfolding value

@@ -30,7 +30,7 @@ digits c =
     digits_of (exponent_letter c.args.format) c.letter_of.result c.args.options.precision c.args.n c.formatted-shown.new.scratch c.in-Some.parts c.formatted-shown.result c.letter_of.ensures c.in-Some.is c.formatted-shown.ensures
 
 pub size-requires : goal.size-requires
-size-requires c = let d = digits c in omega (arith, d.size, d.few)
+size-requires c = let d = digits (goal.at.size-requires c).In-Some in omega (arith, d.size, d.few)
 
 pub put_around-requires : goal.put_around-requires
 put_around-requires c = let d = digits (goal.at.put_around-requires c).In-Some in (omega arith, omega (arith, c.size.ensures, d.size, d.few))
